@@ -9,3 +9,4 @@ mod ScriptFaults
 mod Keys
 mod Reading
 mod Taken
+mod Steps

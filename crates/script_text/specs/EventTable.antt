@@ -5,7 +5,8 @@ use Rattle.toml.specs.Data.{Data, string, get}
 use Rattle.grant_machine.specs.declared.command.Command.{Command}
 use Rattle.command_log.specs.Spelling.{spelling}
 use Rattle.world_events.specs.declared.event.Event.{Event}
-use Rattle.world_events.specs.declared.event.Event.TheVariants.{Lead, Offer, Tell, Deliver, DeliverThenCrash, Crash, Restart, Release, Hear, Want, Tick}
+use Rattle.world_events.specs.declared.event.Event.TheVariants.{Lead, Offer, Tell, Deliver, DeliverThenCrash, Crash}
+use Rattle.world_events.specs.declared.event.Event.TheVariants.{Restart, Release, Hear, Want, Tick}
 use Rattle.script_text.specs.CommandTable.{SpellsCommand}
 use Rattle.script_text.specs.Fields.{HasText, HasNumber, HasNode}
 

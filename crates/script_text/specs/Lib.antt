@@ -4,3 +4,5 @@ pub mod CommandTable
 pub mod EventTable
 pub mod Script
 pub mod Plan
+pub mod StepTable
+pub mod StepScript

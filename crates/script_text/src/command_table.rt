@@ -9,7 +9,8 @@ ghost use Rattle.flow_state.specs.declared.settings.ChannelSettings.{ChannelSett
 ghost use Rattle.flow_state.specs.declared.flow.FlowKind.{FlowKind};
 ghost use Rattle.grant_machine.specs.declared.command.Command.{Command};
 ghost use Rattle.script_text.specs.Fields.{HasText};
-ghost use Rattle.script_text.specs.CommandTable.{IsPair, HasPair, NamesPhy, HasPhy, HasChannel, HasSettings, HasService, HasLast, HasKeep, HasBackoff, SpellsCommand};
+ghost use Rattle.script_text.specs.CommandTable.{IsPair, HasPair, NamesPhy, HasPhy, HasChannel, HasSettings};
+ghost use Rattle.script_text.specs.CommandTable.{HasService, HasLast, HasKeep, HasBackoff, SpellsCommand};
 
 use crate::fields::{u8_at, u16_at, u32_at, u64_at};
 use flow_state::{Channel, ChannelSettings, FlowKind, LAST_TIME, Phy};

@@ -7,7 +7,8 @@ ghost use Rattle.ballots.specs.declared.members.Members.{Members};
 ghost use Rattle.script_text.specs.declared.script.ScriptFault.TheVariants.{OutOfMemory};
 ghost use Rattle.script_text.specs.EventTable.{MeansEvent};
 ghost use Rattle.script_text.specs.Items.{IsFirstBad};
-ghost use Rattle.script_text.specs.Script.{HasMembers, IsId, HasModems, HasEvents, IsBadAt, IsFaultAt, IsNoIds, IsScriptTable, IsTableFault, IsScript, IsScriptFault};
+ghost use Rattle.script_text.specs.Script.{HasMembers, IsId, HasModems, HasEvents, IsBadAt, IsFaultAt, IsNoIds};
+ghost use Rattle.script_text.specs.Script.{IsScriptTable, IsTableFault, IsScript, IsScriptFault};
 
 use crate::event_table::event_of;
 use crate::fields::{items_at, member, tables_at};
@@ -51,7 +52,7 @@ impl<T: Drop> From<AllocFailed<T>> for ScriptFault {
     }
 }
 
-fn members_of(table: &Table) -> Option<Members>
+pub(crate) fn members_of(table: &Table) -> Option<Members>
     ensures found { IfSome result (HasMembers (table_view table.now)) }
     ensures only { (count : Members) → HasMembers (table_view table.now) count → result ≡ Some count }
 {
@@ -81,7 +82,7 @@ fn read_ids(alloc: Global, items: &[Value]) -> Result<Vec<u32>, ScriptFault>
     Ok(ids)
 }
 
-fn read_modems(alloc: Global, table: &Table) -> Result<Vec<u32>, ScriptFault>
+pub(crate) fn read_modems(alloc: Global, table: &Table) -> Result<Vec<u32>, ScriptFault>
     ensures read { IfOk result (λ ids. HasModems (table_view table.now) ids.items) }
     ensures fault { IfErr result (IsNoIds (HasModems (table_view table.now))) }
 {

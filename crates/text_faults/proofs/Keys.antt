@@ -1,5 +1,7 @@
 -- What a key holds where it has no fault, and the other way round.
-use Rattle.std.proofs.Common.{◌≡◌, ℕ, suc, ◌^◌, ◌<◌, ◌≤◌, ◌⊎◌, inl, inr, Bool, true, false, cond, if◌then◌else◌, ◌&&◌, is_some, is_none, List, [], ◌∷◌, ◌++◌, Option, Some, None, pos, negsuc, bytes_eq, find, filter_map, codes, refl, sym, ap, ◌∙◌, arith}
+use Rattle.std.proofs.Common.{◌≡◌, ℕ, suc, ◌^◌, ◌<◌, ◌≤◌, ◌⊎◌, inl, inr, Bool, true, false, cond, if◌then◌else◌, ◌&&◌}
+use Rattle.std.proofs.Common.{is_some, is_none, List, [], ◌∷◌, ◌++◌, Option, Some, None, pos, negsuc, bytes_eq, find}
+use Rattle.std.proofs.Common.{filter_map, codes, refl, sym, ap, ◌∙◌, arith}
 use Rattle.std.specs.List.{cons_option}
 use Rattle.std.proofs.lemmas.Bool.{leb-true, le-leb}
 use Rattle.std.proofs.lemmas.Slice.Eq.{bytes_eq-Decides}
@@ -95,7 +97,7 @@ no_node_fault place kind key d n h =
     rw (h.number.held, le-leb n 4 least) refl
 
 -- the name of a kind
-is_one : (g : Group) (t : Option (List ℕ)) → is_one_of g t ≡ true → (k : Kind) × (named_by g t ≡ Some k)
+pub is_one : (g : Group) (t : Option (List ℕ)) → is_one_of g t ≡ true → (k : Kind) × (named_by g t ≡ Some k)
 is_one g None h = absurd (cc)
 is_one g (Some t) h = some_named (named g t) h
   where

@@ -1,12 +1,17 @@
--- A table without a fault means an event, and one that means an event has no fault.
-use Rattle.std.proofs.Common.{◌≡◌, ℕ, inl, inr, Bool, true, false, if◌then◌else◌, is_ok, List, [], ◌∷◌, Option, Some, None, Result, Ok, Err, codes, refl, sym, subst}
+-- A table without a fault means a step, and one that means a step has no fault.
+use Rattle.std.proofs.Common.{◌≡◌, ℕ, ◌⊎◌, inl, inr, Bool, true, false, if◌then◌else◌, is_ok, List, [], ◌∷◌, Option, Some}
+use Rattle.std.proofs.Common.{None, Result, Ok, Err, codes, refl, sym, subst}
 use Rattle.hex.specs.Hex.{decode_of}
 use Rattle.toml.specs.Data.{Data, string, integer, float, boolean, datetime, array, table, get}
 use Rattle.command_log.specs.Spelling.{spelling}
 use Rattle.world_events.specs.declared.event.Event.{Event}
 use Rattle.world_events.specs.declared.event.Event.TheVariants as events
+use Rattle.script_steps.specs.declared.name.Name.{Name}
+use Rattle.script_steps.specs.declared.step.Step.{Step}
+use Rattle.script_steps.specs.declared.step.Step.TheVariants.{Plain, Deliver, DeliverThenCrash}
 use Rattle.script_text.specs.Fields.{HasNumber, HasText}
 use Rattle.script_text.specs.EventTable.{IsHexBytes, IsOffered, MeansEvent}
+use Rattle.script_text.specs.StepTable.{HasName, IsNamed, MeansStep}
 use Rattle.text_faults.specs.declared.kind.Kind.{Kind}
 use Rattle.text_faults.specs.declared.kind.Kind.TheVariants as kinds
 use Rattle.text_faults.specs.declared.kind.Group.TheVariants.{Events}
@@ -17,9 +22,12 @@ use Rattle.text_faults.specs.declared.fault.Fault.{Fault}
 use Rattle.text_faults.specs.declared.fault.Place.TheVariants as places
 use Rattle.text_faults.specs.Kinds.{kind_name, kinds_of, named}
 use Rattle.text_faults.specs.Rows.{key_name, rows_of}
-use Rattle.text_faults.specs.Faults.{fault_at, key_faults, chosen, kind_faults, table_faults, is_hex, offers, is_offer, offered_faults, event_faults}
-use Rattle.text_faults.proofs.Keys.{both_empty, of_none, number, no_number_fault, node_number, no_node_fault, name, IsOneOf, named_text}
+use Rattle.text_faults.specs.Faults.{fault_at, key_faults, chosen, kind_faults, table_faults, is_hex, offers, is_offer}
+use Rattle.text_faults.specs.Faults.{offered_faults, event_faults}
+use Rattle.text_faults.proofs.Keys.{both_empty, of_none, number, no_number_fault, node_number, no_node_fault, name}
+use Rattle.text_faults.proofs.Keys.{IsOneOf, named_text}
 use Rattle.text_faults.proofs.Spelled.{kept_keys, own_keys, spelled, no_command_fault, no_more}
+use Rattle.text_faults.proofs.Letters.{asked, letter_kind_in, no_named_fault, no_numbered_fault}
 
 -- ---- what is offered
 
@@ -53,26 +61,26 @@ no_offer_fault n None (Some digits) bytes (s, is, decodes) = rw (is, decodes) re
 no_offer_fault n (Some command) None bytes (c, spells, is) = no_command_fault (places.Offered n) command c spells
 no_offer_fault n (Some command) (Some digits) bytes h = absurd h
 
--- ---- from no fault to an event
+-- ---- from no fault to a step
 
 abbrev pub offer_part : ℕ → Data → Bool → List Fault
 offer_part n d b = if b then offered_faults n (get (codes "command") d) (get (codes "value") d) else []
 
 abbrev Means : ℕ → Data → Kind → Type 0
-Means n d k = HasText d (codes "kind") (kind_name k) → kind_faults (places.Event n) (Some k) d ≡ [] → offer_part n d (offers k) ≡ [] → (e : Event) × MeansEvent d e
+Means n d k = HasText d (codes "kind") (kind_name k) → kind_faults (places.Event n) (Some k) d ≡ [] → offer_part n d (offers k) ≡ [] → (s : Step) × MeansStep d s
 
 -- a kind whose one key holds a number of 64 bits
 single : (n : ℕ) (d : Data) (k : Kind) (key : Key) (make : ℕ → Event) → (kind_faults (places.Event n) (Some k) d ≡ [] → fault_at (places.Event n) k d (key, wants.Number 18446744073709551615) ≡ None)
     → ((x : ℕ) → HasText d (codes "kind") (kind_name k) → HasNumber d (key_name key) 64 x → MeansEvent d (make x)) → Means n d k
 single n d k key make first means text none part =
-    let (x, a) = number (places.Event n) k key d 18446744073709551615 64 refl (first none) in (make x, means x text a)
+    let (x, a) = number (places.Event n) k key d 18446744073709551615 64 refl (first none) in (Plain (make x), means x text a)
 
 offer : (n : ℕ) (d : Data) → Means n d kinds.Offer
 offer n d text none part =
     let h = own_keys (places.Event n) kinds.Offer d none in
     let (node, a) = number (places.Event n) kinds.Offer keys.Node d 18446744073709551615 64 refl h.0 in
     let (bytes, b) = offered n (get (codes "command") d) (get (codes "value") d) part in
-    (events.Offer node bytes, (text, a, b))
+    (Plain (events.Offer node bytes), (text, a, b))
 
 tell : (n : ℕ) (d : Data) → Means n d kinds.Tell
 tell n d text none part =
@@ -80,14 +88,14 @@ tell n d text none part =
     let (node, a) = number (places.Event n) kinds.Tell keys.Node d 18446744073709551615 64 refl h.0 in
     let (to, b) = node_number (places.Event n) kinds.Tell keys.To d h.1.0 in
     let (place, e) = number (places.Event n) kinds.Tell keys.Place d 18446744073709551615 64 refl h.1.1.0 in
-    (events.Tell node to place, (text, a, b, e))
+    (Plain (events.Tell node to place), (text, a, b, e))
 
 release : (n : ℕ) (d : Data) → Means n d kinds.Release
 release n d text none part =
     let h = own_keys (places.Event n) kinds.Release d none in
     let (node, a) = number (places.Event n) kinds.Release keys.Node d 18446744073709551615 64 refl h.0 in
     let (now, b) = number (places.Event n) kinds.Release keys.Now d 18446744073709551615 64 refl h.1.0 in
-    (events.Release node now, (text, a, b))
+    (Plain (events.Release node now), (text, a, b))
 
 hear : (n : ℕ) (d : Data) → Means n d kinds.Hear
 hear n d text none part =
@@ -95,7 +103,7 @@ hear n d text none part =
     let (modem, a) = number (places.Event n) kinds.Hear keys.Modem d 18446744073709551615 64 refl h.0 in
     let (output, b) = number (places.Event n) kinds.Hear keys.Output d 18446744073709551615 64 refl h.1.0 in
     let (near, e) = number (places.Event n) kinds.Hear keys.Near d 9223372036854775807 63 refl h.1.1.0 in
-    (events.Hear modem output near, (text, a, b, e))
+    (Plain (events.Hear modem output near), (text, a, b, e))
 
 want : (n : ℕ) (d : Data) → Means n d kinds.Want
 want n d text none part =
@@ -104,7 +112,7 @@ want n d text none part =
     let (ch, b) = number (places.Event n) kinds.Want keys.Ch d 255 8 refl h.1.0 in
     let (sid, e) = number (places.Event n) kinds.Want keys.Sid d 65535 16 refl h.1.1.0 in
     let (count, f) = number (places.Event n) kinds.Want keys.N d 65535 16 refl h.1.1.1.0 in
-    (events.Want modem ch sid count, (text, a, b, e, f))
+    (Plain (events.Want modem ch sid count), (text, a, b, e, f))
 
 tick : (n : ℕ) (d : Data) → Means n d kinds.Tick
 tick n d text none part =
@@ -113,7 +121,17 @@ tick n d text none part =
     let (ch, b) = number (places.Event n) kinds.Tick keys.Ch d 255 8 refl h.1.0 in
     let (slot, e) = number (places.Event n) kinds.Tick keys.Slot d 9223372036854775807 63 refl h.1.1.0 in
     let (random, f) = number (places.Event n) kinds.Tick keys.Random d 18446744073709551615 64 refl h.1.1.1.0 in
-    (events.Tick modem ch slot random, (text, a, b, e, f))
+    (Plain (events.Tick modem ch slot random), (text, a, b, e, f))
+
+-- a delivery, by the number of its letter or by its name
+delivers : (n : ℕ) (d : Data) (k : Kind) (number : ℕ → Event) (named : Name → Step) → (kind_faults (places.Event n) (Some k) d ≡ [] → key_faults (places.Event n) k (letter_kind_in d) d ≡ [])
+    → ((i : ℕ) → HasText d (codes "kind") (kind_name k) → HasNumber d (codes "letter") 64 i → MeansEvent d (number i))
+    → ((name : Name) → IsNamed d (kind_name k) name → MeansStep d (named name)) → Means n d k
+delivers n d k number named keys numbered is_named text none part = by_letter (asked (places.Event n) k d (keys none))
+  where
+    by_letter : ((i : ℕ) × HasNumber d (codes "letter") 64 i) ⊎ ((name : Name) × (get (codes "letter") d ≡ None) × HasName d name) → (s : Step) × MeansStep d s
+    by_letter (inl (i, has)) = (Plain (number i), numbered i text has)
+    by_letter (inr (name, is, has)) = (named name, is_named name (record { kind = text; unnumbered = is; name = has }))
 
 means_kind : (n : ℕ) (d : Data) (k : Kind) → IsOneOf k (kinds_of Events) → Means n d k
 means_kind n d k (inl is) =
@@ -121,9 +139,9 @@ means_kind n d k (inl is) =
 means_kind n d k (inr (inl is)) = subst (Means n d) (sym is) (offer n d)
 means_kind n d k (inr (inr (inl is))) = subst (Means n d) (sym is) (tell n d)
 means_kind n d k (inr (inr (inr (inl is)))) =
-    subst (Means n d) (sym is) (single n d kinds.Deliver keys.Letter events.Deliver (λ none. (own_keys (places.Event n) kinds.Deliver d none).0) (λ x text a. (text, a)))
+    subst (Means n d) (sym is) (delivers n d kinds.Deliver events.Deliver Deliver (λ none. none) (λ i text has. (text, has)) (λ name is. is))
 means_kind n d k (inr (inr (inr (inr (inl is))))) =
-    subst (Means n d) (sym is) (single n d kinds.DeliverThenCrash keys.Letter events.DeliverThenCrash (λ none. (own_keys (places.Event n) kinds.DeliverThenCrash d none).0) (λ x text a. (text, a)))
+    subst (Means n d) (sym is) (delivers n d kinds.DeliverThenCrash events.DeliverThenCrash DeliverThenCrash (λ none. none) (λ i text has. (text, has)) (λ name is. is))
 means_kind n d k (inr (inr (inr (inr (inr (inl is)))))) =
     subst (Means n d) (sym is) (single n d kinds.Crash keys.Node events.Crash (λ none. (own_keys (places.Event n) kinds.Crash d none).0) (λ x text a. (text, a)))
 means_kind n d k (inr (inr (inr (inr (inr (inr (inl is))))))) =
@@ -134,8 +152,8 @@ means_kind n d k (inr (inr (inr (inr (inr (inr (inr (inr (inr (inl is)))))))))) 
 means_kind n d k (inr (inr (inr (inr (inr (inr (inr (inr (inr (inr (inl is))))))))))) = subst (Means n d) (sym is) (tick n d)
 means_kind n d k (inr (inr (inr (inr (inr (inr (inr (inr (inr (inr (inr none))))))))))) = absurd none
 
--- a table without a fault means an event
-pub meant : (n : ℕ) (d : Data) → event_faults n d ≡ [] → (e : Event) × MeansEvent d e
+-- a table without a fault means a step
+pub meant : (n : ℕ) (d : Data) → event_faults n d ≡ [] → (s : Step) × MeansStep d s
 meant n d none =
     let whole = both_empty (table_faults (places.Event n) kinds.Event d) (offer_part n d (is_offer (chosen kinds.Event d))) none in
     let parts = both_empty (key_faults (places.Event n) kinds.Event kinds.Event d) (kind_faults (places.Event n) (chosen kinds.Event d) d) whole.0 in
@@ -146,13 +164,13 @@ meant n d none =
     let offers_none : offer_part n d (offers k) ≡ [] = rw is at whole.1 in
     means_kind n d k one text faults offers_none
 
--- ---- from an event to no fault
+-- ---- from a step to no fault
 
 no_kind_fault : (n : ℕ) (d : Data) (k : Kind) → named Events (kind_name k) ≡ Some k → HasText d (codes "kind") (kind_name k) → kind_faults (places.Event n) (Some k) d ≡ [] → offer_part n d (offers k) ≡ [] → event_faults n d ≡ []
 no_kind_fault n d k here text none part = rw (text, here, none) part
 
 -- the faults of a table that means an event: none
-pub no_event_fault : (n : ℕ) (d : Data) (e : Event) → MeansEvent d e → event_faults n d ≡ []
+no_event_fault : (n : ℕ) (d : Data) (e : Event) → MeansEvent d e → event_faults n d ≡ []
 no_event_fault n d (events.Lead node) (text, a) =
     let h0 = no_number_fault (places.Event n) kinds.Lead keys.Node d 18446744073709551615 64 node refl a in
     no_kind_fault n d kinds.Lead refl text (no_more _ (of_none (fault_at (places.Event n) kinds.Lead d) (rows_of kinds.Lead) (h0, tt))) refl
@@ -165,12 +183,8 @@ no_event_fault n d (events.Tell node to place) (text, a, b, e) =
     let h1 = no_node_fault (places.Event n) kinds.Tell keys.To d to b in
     let h2 = no_number_fault (places.Event n) kinds.Tell keys.Place d 18446744073709551615 64 place refl e in
     no_kind_fault n d kinds.Tell refl text (no_more _ (of_none (fault_at (places.Event n) kinds.Tell d) (rows_of kinds.Tell) (h0, (h1, (h2, tt))))) refl
-no_event_fault n d (events.Deliver letter) (text, a) =
-    let h0 = no_number_fault (places.Event n) kinds.Deliver keys.Letter d 18446744073709551615 64 letter refl a in
-    no_kind_fault n d kinds.Deliver refl text (no_more _ (of_none (fault_at (places.Event n) kinds.Deliver d) (rows_of kinds.Deliver) (h0, tt))) refl
-no_event_fault n d (events.DeliverThenCrash letter) (text, a) =
-    let h0 = no_number_fault (places.Event n) kinds.DeliverThenCrash keys.Letter d 18446744073709551615 64 letter refl a in
-    no_kind_fault n d kinds.DeliverThenCrash refl text (no_more _ (of_none (fault_at (places.Event n) kinds.DeliverThenCrash d) (rows_of kinds.DeliverThenCrash) (h0, tt))) refl
+no_event_fault n d (events.Deliver letter) (text, a) = no_kind_fault n d kinds.Deliver refl text (no_numbered_fault (places.Event n) kinds.Deliver d letter a) refl
+no_event_fault n d (events.DeliverThenCrash letter) (text, a) = no_kind_fault n d kinds.DeliverThenCrash refl text (no_numbered_fault (places.Event n) kinds.DeliverThenCrash d letter a) refl
 no_event_fault n d (events.Crash node) (text, a) =
     let h0 = no_number_fault (places.Event n) kinds.Crash keys.Node d 18446744073709551615 64 node refl a in
     no_kind_fault n d kinds.Crash refl text (no_more _ (of_none (fault_at (places.Event n) kinds.Crash d) (rows_of kinds.Crash) (h0, tt))) refl
@@ -198,3 +212,9 @@ no_event_fault n d (events.Tick modem ch slot random) (text, a, b, e, f) =
     let h2 = no_number_fault (places.Event n) kinds.Tick keys.Slot d 9223372036854775807 63 slot refl e in
     let h3 = no_number_fault (places.Event n) kinds.Tick keys.Random d 18446744073709551615 64 random refl f in
     no_kind_fault n d kinds.Tick refl text (no_more _ (of_none (fault_at (places.Event n) kinds.Tick d) (rows_of kinds.Tick) (h0, (h1, (h2, (h3, tt)))))) refl
+
+-- and of one that means a step
+pub no_step_fault : (n : ℕ) (d : Data) (s : Step) → MeansStep d s → event_faults n d ≡ []
+no_step_fault n d (Plain event) h = no_event_fault n d event h
+no_step_fault n d (Deliver name) h = no_kind_fault n d kinds.Deliver refl h.kind (no_named_fault (places.Event n) kinds.Deliver d name h.unnumbered h.name) refl
+no_step_fault n d (DeliverThenCrash name) h = no_kind_fault n d kinds.DeliverThenCrash refl h.kind (no_named_fault (places.Event n) kinds.DeliverThenCrash d name h.unnumbered h.name) refl

@@ -17,7 +17,9 @@ use Rattle.text_faults.specs.declared.fault.Place.{Place}
 use Rattle.text_faults.specs.Kinds.{kind_name, kinds_of, named}
 use Rattle.text_faults.specs.Rows.{rows_of, sized}
 use Rattle.text_faults.specs.Faults.{fault_at, key_faults, chosen, service_faults, kind_faults, table_faults}
-use Rattle.text_faults.proofs.Keys.{both_empty, NoneOf, none_of, of_none, number, no_number_fault, name, IsOneOf, named_text, number_or, no_number_or_fault, phy, no_phy_fault, phy_or_tdma, no_phy_or_tdma_fault, pair, no_pair_fault, pair_or, no_pair_or_fault}
+use Rattle.text_faults.proofs.Keys.{both_empty, NoneOf, none_of, of_none, number, no_number_fault, name, IsOneOf}
+use Rattle.text_faults.proofs.Keys.{named_text, number_or, no_number_or_fault, phy, no_phy_fault, phy_or_tdma}
+use Rattle.text_faults.proofs.Keys.{no_phy_or_tdma_fault, pair, no_pair_fault, pair_or, no_pair_or_fault}
 
 -- the keys of a kind without a fault
 pub kept_keys : (place : Place) (told kind : Kind) (d : Data) → key_faults place told kind d ≡ [] → NoneOf (fault_at place told d) (rows_of kind)

@@ -1,5 +1,7 @@
 -- Each fault is the one of what its key holds at its place.
-use Rattle.std.proofs.Common.{◌≡◌, ℕ, zero, suc, ◌+◌, ◌-◌, Bool, true, false, if◌then◌else◌, List, [], ◌∷◌, ◌++◌, Option, Some, None, slice_get, filter_map, codes, refl, sym, ap, ◌∙◌, subst, add-zero, arith}
+use Rattle.std.proofs.Common.{◌≡◌, ℕ, zero, suc, ◌+◌, ◌-◌, Bool, true, false, if◌then◌else◌, List, [], ◌∷◌, ◌++◌}
+use Rattle.std.proofs.Common.{Option, Some, None, slice_get, filter_map, codes, refl, sym, ap, ◌∙◌, subst, add-zero}
+use Rattle.std.proofs.Common.{arith}
 use Rattle.std.specs.List.{AllByRecursion, cons_option}
 use Rattle.toml.specs.Data.{Data, get}
 use Rattle.text_faults.specs.declared.kind.Kind.{Kind}
@@ -14,7 +16,9 @@ use Rattle.text_faults.specs.Rows.{key_name, rows_of}
 use Rattle.text_faults.specs.Fits.{is_number, holds, may_lack}
 use Rattle.text_faults.specs.Items.{items_at}
 use Rattle.text_faults.specs.Unfit.{item_under, table_of, held_at, IsUnfit}
-use Rattle.text_faults.specs.Faults.{found_in, fault_of, fault_at, key_faults, chosen, service_faults, kind_faults, table_faults, is_hex, is_offer, offered_faults, command_faults, event_faults, id_faults, numbered, plan_faults, script_faults}
+use Rattle.text_faults.specs.Faults.{found_in, fault_of, fault_at, key_faults, chosen, service_faults, kind_faults}
+use Rattle.text_faults.specs.Faults.{table_faults, is_hex, is_offer, offered_faults, command_faults, event_faults}
+use Rattle.text_faults.specs.Faults.{id_faults, numbered, plan_faults, script_faults}
 
 -- ---- all of some faults
 

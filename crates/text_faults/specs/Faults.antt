@@ -1,16 +1,19 @@
 -- The faults of a table: each key that holds something else than is wanted there, in the order of its kind's rows.
-use Rattle.std.specs.Prelude.{◌≡◌, ◌↔◌, ℕ, ◌+◌, Bool, true, false, if◌then◌else◌, List, [], ◌∷◌, ◌++◌, Option, Some, None, is_ok, codes, filter_map}
+use Rattle.std.specs.Prelude.{◌≡◌, ◌↔◌, ℕ, ◌+◌, Bool, true, false, if◌then◌else◌, List, [], ◌∷◌, ◌++◌, Option, Some}
+use Rattle.std.specs.Prelude.{None, is_ok, is_some, ◌||◌, codes, filter_map}
 use Rattle.hex.specs.Hex.{decode_of}
 use Rattle.toml.specs.Data.{Data, string, integer, float, boolean, datetime, array, table, Members, get, as_str}
 use Rattle.ballots.specs.declared.members.Members.{Members as NodeCount}
 use Rattle.grant_machine.specs.declared.command.Command.{Command}
-use Rattle.world_events.specs.declared.event.Event.{Event}
+use Rattle.script_steps.specs.declared.step.Step.{Step}
 use Rattle.script_text.specs.CommandTable.{SpellsCommand}
 use Rattle.script_text.specs.Items.{items_at as members_items, AllMean}
-use Rattle.script_text.specs.Script.{IsScriptTable}
+use Rattle.script_text.specs.StepScript.{IsStepTable}
 use Rattle.text_faults.specs.declared.kind.Kind.{Kind}
 use Rattle.text_faults.specs.declared.kind.Kind.TheVariants as kinds
 use Rattle.text_faults.specs.declared.kind.Group.{Group}
+use Rattle.text_faults.specs.declared.row.Choice.{Choice}
+use Rattle.text_faults.specs.declared.row.Choice.TheVariants.{Naming, OfLetter}
 use Rattle.text_faults.specs.declared.row.Key.{Key}
 use Rattle.text_faults.specs.declared.row.Key.TheVariants as keys
 use Rattle.text_faults.specs.declared.row.Wants.{Wants}
@@ -60,15 +63,26 @@ abbrev pub named_in : Group → Option Data → Option Kind
 named_in group None = None
 named_in group (Some d) = named_by group (as_str d)
 
--- the further kind that a table of a kind names
-abbrev pub chosen_by : Option (Key × Group) → Data → Option Kind
+-- one of the keys is there that say from whom, to whom, or of what kind a letter is
+abbrev pub says_whose : Data → Bool
+says_whose d = is_some (get (codes "from") d) || (is_some (get (codes "to") d) || is_some (get (codes "note") d))
+
+-- how a table asks for a letter, by what it holds under the letter's number, and by whether it says whose it is
+abbrev pub letter_kind : Option Data → Bool → Kind
+letter_kind (Some number) whose = kinds.Numbered
+letter_kind None true = kinds.Named
+letter_kind None false = kinds.Unnamed
+
+-- the further kind of which a table of a kind is
+abbrev pub chosen_by : Option Choice → Data → Option Kind
 chosen_by None d = None
-chosen_by (Some choice) d = named_in choice.1 (get (key_name choice.0) d)
+chosen_by (Some (Naming key group)) d = named_in group (get (key_name key) d)
+chosen_by (Some OfLetter) d = Some (letter_kind (get (codes "letter") d) (says_whose d))
 
 abbrev pub chosen : Kind → Data → Option Kind
 chosen kind d = chosen_by (choice_of kind) d
 
--- the faults of a table of this kind, of the kind that it names, and of the kind that this one names
+-- the faults of a table of this kind, of the kind that it names, and of the further kind of this one
 abbrev pub service_faults : Place → Kind → Option Kind → Data → List Fault
 service_faults place told None d = []
 service_faults place told (Some kind) d = key_faults place told kind d
@@ -145,7 +159,7 @@ abbrev pub IsPlanTable : Members → Type 0
 IsPlanTable ms = (cs : List Command) × AllMean SpellsCommand (members_items ms (codes "command")) cs
 
 abbrev pub IsScript : Members → Type 0
-IsScript ms = (count : NodeCount) × (ids : List ℕ) × (events : List Event) × IsScriptTable ms count ids events
+IsScript ms = (count : NodeCount) × (ids : List ℕ) × (steps : List Step) × IsStepTable ms count ids steps
 
 -- the faults are none exactly where a table is read
 abbrev pub TellsWhether : (Members → Type 0) → Data → List Fault → Type 0

@@ -1,9 +1,12 @@
 -- Whether what a key holds is what is wanted there.
-use Rattle.std.specs.Prelude.{ℕ, ℤ, pos, negsuc, Bool, true, false, ◌==◌, ◌&&◌, ◌||◌, nat_le, List, Option, Some, None, is_some, is_none}
-use Rattle.toml.specs.Data.{Data, at, as_integer, as_str, as_array}
+use Rattle.std.specs.Prelude.{ℕ, ℤ, pos, negsuc, Bool, true, false, ◌==◌, ◌&&◌, ◌||◌, nat_le, List, Option, Some, None}
+use Rattle.std.specs.Prelude.{is_some, is_none}
+use Rattle.toml.specs.Data.{Data, at, as_bool, as_integer, as_str, as_array}
 use Rattle.text_faults.specs.declared.kind.Group.{Group}
 use Rattle.text_faults.specs.declared.row.Wants.{Wants}
-use Rattle.text_faults.specs.declared.row.Wants.TheVariants.{Number, NumberOrNothing, Bytes, BytesOrNothing, Name, NameOrNothing, Members, Tables, Ids, Hex, Nothing}
+use Rattle.text_faults.specs.declared.row.Wants.TheVariants.{Number, NumberOrNothing, Bytes, BytesOrNothing, Name}
+use Rattle.text_faults.specs.declared.row.Wants.TheVariants.{NameOrNothing, FlagOrNothing, Members, Tables, Ids, Hex}
+use Rattle.text_faults.specs.declared.row.Wants.TheVariants.{Nothing, Letter}
 use Rattle.text_faults.specs.Kinds.{named}
 
 -- a number from 0 to this one
@@ -40,7 +43,7 @@ is_three_or_five (Some (negsuc n)) = false
 abbrev pub is_count : Data → Bool
 is_count d = is_three_or_five (as_integer d)
 
--- the value is what is wanted; of digits and commands the offer decides
+-- the value is what is wanted; of digits, commands and letters without a name other keys decide
 abbrev pub holds : Wants → Data → Bool
 holds (Number most) d = is_number most d
 holds (NumberOrNothing most) d = is_number most d
@@ -48,17 +51,20 @@ holds Bytes d = is_pair d
 holds BytesOrNothing d = is_pair d
 holds (Name group) d = is_name group d
 holds (NameOrNothing group) d = is_name group d
+holds FlagOrNothing d = is_some (as_bool d)
 holds Members d = is_count d
 holds Tables d = is_some (as_array d)
 holds Ids d = is_some (as_array d)
 holds Hex d = false
 holds Nothing d = false
+holds Letter d = false
 
 -- nothing may be there
 abbrev pub may_lack : Wants → Bool
 may_lack (NumberOrNothing most) = true
 may_lack BytesOrNothing = true
 may_lack (NameOrNothing group) = true
+may_lack FlagOrNothing = true
 may_lack Tables = true
 may_lack Ids = true
 may_lack Nothing = true

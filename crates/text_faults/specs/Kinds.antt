@@ -1,9 +1,14 @@
 -- The kinds of the tables in a plan and in a script.
 use Rattle.std.specs.Prelude.{ℕ, List, [], ◌∷◌, Option, codes, bytes_eq, find}
 use Rattle.text_faults.specs.declared.kind.Kind.{Kind}
-use Rattle.text_faults.specs.declared.kind.Kind.TheVariants.{Plan, Script, Modem, Command, Event, Noop, Channel, Change, Flow, Drop, Request, Cut, BestEffort, Ugs, Poll, Station, Initial, Tdma, Advanced, Lead, Offer, Tell, Deliver, DeliverThenCrash, Crash, Restart, Release, Hear, Want, Tick}
+use Rattle.text_faults.specs.declared.kind.Kind.TheVariants.{Plan, Script, Modem, Command, Event, Noop, Channel, Change}
+use Rattle.text_faults.specs.declared.kind.Kind.TheVariants.{Flow, Drop, Request, Cut, BestEffort, Ugs, Poll, Station}
+use Rattle.text_faults.specs.declared.kind.Kind.TheVariants.{Initial, Tdma, Advanced, Lead, Offer, Tell, Deliver}
+use Rattle.text_faults.specs.declared.kind.Kind.TheVariants.{DeliverThenCrash, Crash, Restart, Release, Hear, Want}
+use Rattle.text_faults.specs.declared.kind.Kind.TheVariants.{Tick, Numbered, Named, Unnamed, Prepare, Promise, Accept}
+use Rattle.text_faults.specs.declared.kind.Kind.TheVariants.{Voted, Higher, Known}
 use Rattle.text_faults.specs.declared.kind.Group.{Group}
-use Rattle.text_faults.specs.declared.kind.Group.TheVariants.{Commands, Services, Phys, Events}
+use Rattle.text_faults.specs.declared.kind.Group.TheVariants.{Commands, Services, Phys, Events, Notes}
 
 -- what a kind is called
 abbrev pub kind_name : Kind → List ℕ
@@ -37,6 +42,15 @@ kind_name Release = codes "release"
 kind_name Hear = codes "hear"
 kind_name Want = codes "want"
 kind_name Tick = codes "tick"
+kind_name Numbered = codes "numbered"
+kind_name Named = codes "named"
+kind_name Unnamed = codes "unnamed"
+kind_name Prepare = codes "prepare"
+kind_name Promise = codes "promise"
+kind_name Accept = codes "accept"
+kind_name Voted = codes "voted"
+kind_name Higher = codes "higher"
+kind_name Known = codes "known"
 
 -- the kinds of a group
 abbrev pub kinds_of : Group → List Kind
@@ -44,6 +58,7 @@ kinds_of Commands = Noop ∷ Channel ∷ Change ∷ Flow ∷ Drop ∷ Request �
 kinds_of Services = BestEffort ∷ Ugs ∷ Poll ∷ Station ∷ Initial ∷ []
 kinds_of Phys = Tdma ∷ Advanced ∷ []
 kinds_of Events = Lead ∷ Offer ∷ Tell ∷ Deliver ∷ DeliverThenCrash ∷ Crash ∷ Restart ∷ Release ∷ Hear ∷ Want ∷ Tick ∷ []
+kinds_of Notes = Prepare ∷ Promise ∷ Accept ∷ Voted ∷ Higher ∷ Known ∷ []
 
 -- the kind of a group with this name
 abbrev pub named : Group → List ℕ → Option Kind

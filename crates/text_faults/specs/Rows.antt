@@ -2,8 +2,9 @@
 use Rattle.std.specs.Prelude.{ℕ, List, [], ◌∷◌, Option, Some, None, codes}
 use Rattle.text_faults.specs.declared.kind.Kind.{Kind}
 use Rattle.text_faults.specs.declared.kind.Kind.TheVariants as kinds
-use Rattle.text_faults.specs.declared.kind.Group.{Group}
-use Rattle.text_faults.specs.declared.kind.Group.TheVariants.{Commands, Services, Phys, Events}
+use Rattle.text_faults.specs.declared.kind.Group.TheVariants.{Commands, Services, Phys, Events, Notes}
+use Rattle.text_faults.specs.declared.row.Choice.{Choice}
+use Rattle.text_faults.specs.declared.row.Choice.TheVariants.{Naming, OfLetter}
 use Rattle.text_faults.specs.declared.row.Key.{Key}
 use Rattle.text_faults.specs.declared.row.Key.TheVariants as keys
 use Rattle.text_faults.specs.declared.row.Wants.{Wants}
@@ -49,6 +50,10 @@ key_name keys.Output = codes "output"
 key_name keys.Near = codes "near"
 key_name keys.Slot = codes "slot"
 key_name keys.Random = codes "random"
+key_name keys.From = codes "from"
+key_name keys.Note = codes "note"
+key_name keys.Ballot = codes "ballot"
+key_name keys.Again = codes "again"
 
 -- numbers of so many bits
 abbrev pub byte : Wants
@@ -75,6 +80,14 @@ last = wants.NumberOrNothing 18446744073709551615
 
 abbrev pub keep : Wants
 keep = wants.NumberOrNothing 65535
+
+-- the same, or nothing
+abbrev pub any_member : Wants
+any_member = wants.NumberOrNothing 4
+
+-- the keys of a name beside those of which one has to be there
+abbrev pub further : List (Key × Wants)
+further = (keys.Ballot, last) ∷ (keys.Place, last) ∷ (keys.Again, wants.FlagOrNothing) ∷ []
 
 -- the keys of a size, and of when something of that size is due
 abbrev pub sized : List (Key × Wants)
@@ -107,8 +120,9 @@ rows_of kinds.Cut =
 rows_of kinds.Lead = (keys.Node, long) ∷ []
 rows_of kinds.Offer = (keys.Node, long) ∷ []
 rows_of kinds.Tell = (keys.Node, long) ∷ (keys.To, member) ∷ (keys.Place, long) ∷ []
-rows_of kinds.Deliver = (keys.Letter, long) ∷ []
-rows_of kinds.DeliverThenCrash = (keys.Letter, long) ∷ []
+rows_of kinds.Numbered = (keys.Letter, long) ∷ []
+rows_of kinds.Named = (keys.From, any_member) ∷ (keys.To, any_member) ∷ (keys.Note, wants.NameOrNothing Notes) ∷ further
+rows_of kinds.Unnamed = (keys.Letter, wants.Letter) ∷ further
 rows_of kinds.Crash = (keys.Node, long) ∷ []
 rows_of kinds.Restart = (keys.Node, long) ∷ []
 rows_of kinds.Release = (keys.Node, long) ∷ (keys.Now, long) ∷ []
@@ -117,9 +131,11 @@ rows_of kinds.Want = (keys.Modem, long) ∷ (keys.Ch, byte) ∷ (keys.Sid, short
 rows_of kinds.Tick = (keys.Modem, long) ∷ (keys.Ch, byte) ∷ (keys.Slot, slot) ∷ (keys.Random, long) ∷ []
 rows_of _ = []
 
--- the key by which a table of this kind names a further kind, and of which group that is
-abbrev pub choice_of : Kind → Option (Key × Group)
-choice_of kinds.Command = Some (keys.Kind, Commands)
-choice_of kinds.Event = Some (keys.Kind, Events)
-choice_of kinds.Flow = Some (keys.Service, Services)
+-- by what a table of this kind is of a further kind
+abbrev pub choice_of : Kind → Option Choice
+choice_of kinds.Command = Some (Naming keys.Kind Commands)
+choice_of kinds.Event = Some (Naming keys.Kind Events)
+choice_of kinds.Flow = Some (Naming keys.Service Services)
+choice_of kinds.Deliver = Some OfLetter
+choice_of kinds.DeliverThenCrash = Some OfLetter
 choice_of _ = None

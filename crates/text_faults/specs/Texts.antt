@@ -49,11 +49,13 @@ wanted_text wants.Bytes = codes "two whole numbers from 0 to 255"
 wanted_text wants.BytesOrNothing = codes "two whole numbers from 0 to 255"
 wanted_text (wants.Name group) = names_text group
 wanted_text (wants.NameOrNothing group) = names_text group
+wanted_text wants.FlagOrNothing = codes "true or false"
 wanted_text wants.Members = codes "3 or 5"
 wanted_text wants.Tables = codes "an array of tables"
 wanted_text wants.Ids = codes "an array of whole numbers"
 wanted_text wants.Hex = codes "pairs of hexadecimal digits (there is no command)"
 wanted_text wants.Nothing = codes "left out (there is a command)"
+wanted_text wants.Letter = codes "a whole number, 0 or more (there is no from, to or note)"
 
 -- some text is wanted, or some array
 abbrev pub is_text : Wants → Bool

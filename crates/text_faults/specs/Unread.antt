@@ -1,12 +1,12 @@
 -- The keys of a table that nothing reads, in the table's order.
-use Rattle.std.specs.Prelude.{ℕ, Bool, not, ◌==◌, ◌&&◌, ◌||◌, if◌then◌else◌, List, [], ◌∷◌, ◌++◌, map, filter, Option, Some, None, codes, bytes_eq, string_bytes}
+use Rattle.std.specs.Prelude.{ℕ, Bool, not, ◌==◌, ◌&&◌, ◌||◌, if◌then◌else◌, List, [], ◌∷◌, ◌++◌, map, filter, Option}
+use Rattle.std.specs.Prelude.{Some, None, codes, bytes_eq, string_bytes}
 use Rattle.std.specs.List.{list_any, list_all}
 use Rattle.std.specs.Char.{is_ascii_alphanumeric}
 use Rattle.toml.specs.Data.{Data, table, Members, no_members, member, get}
 use Rattle.text_faults.specs.declared.kind.Kind.{Kind}
 use Rattle.text_faults.specs.declared.kind.Kind.TheVariants as kinds
-use Rattle.text_faults.specs.declared.kind.Group.{Group}
-use Rattle.text_faults.specs.declared.row.Key.{Key}
+use Rattle.text_faults.specs.declared.row.Choice.{Choice}
 use Rattle.text_faults.specs.declared.fault.Place.{Place}
 use Rattle.text_faults.specs.declared.fault.Place.TheVariants as places
 use Rattle.text_faults.specs.declared.unread.Unread.{Unread}
@@ -51,7 +51,7 @@ abbrev pub unread_keys : Place → Kind → List Kind → Data → List KeyThere
 unread_keys place told of_table d = map (λ name. (place, told, name)) (filter (λ name. not (is_read of_table name)) (keys_of d))
 
 -- those of a table that is of two kinds, and of a third if the second has a choice; none where no third is known
-abbrev pub unread_of_kinds : Place → Kind → Kind → Option (Key × Group) → Option Kind → Data → List KeyThere
+abbrev pub unread_of_kinds : Place → Kind → Kind → Option Choice → Option Kind → Data → List KeyThere
 unread_of_kinds place first kind choice (Some service) d = unread_keys place kind (first ∷ kind ∷ service ∷ []) d
 unread_of_kinds place first kind None None d = unread_keys place kind (first ∷ kind ∷ []) d
 unread_of_kinds place first kind (Some choice) None d = []

@@ -1,7 +1,8 @@
 //! The kinds of the tables in a plan and in a script.
 
 /// A kind of table. `Plan` and `Script` are a whole text, `Modem` is an id in a script's list, and `Command` and
-/// `Event` are tables whose own kind is still to be looked at.
+/// `Event` are tables whose own kind is still to be looked at. A delivery is `Numbered`, `Named` or `Unnamed` by how it
+/// asks for its letter, and letters are of the kinds from `Prepare` to `Known`.
 #[derive(Clone, Copy, Debug, PartialEq, Eq)]
 pub enum Kind {
     Plan,
@@ -34,6 +35,15 @@ pub enum Kind {
     Hear,
     Want,
     Tick,
+    Numbered,
+    Named,
+    Unnamed,
+    Prepare,
+    Promise,
+    Accept,
+    Voted,
+    Higher,
+    Known,
 }
 
 /// The kinds among which a key chooses by their names.
@@ -43,6 +53,7 @@ pub enum Group {
     Services,
     Phys,
     Events,
+    Notes,
 }
 
 impl Kind {
@@ -84,6 +95,15 @@ impl Kind {
             Kind::Hear => "hear",
             Kind::Want => "want",
             Kind::Tick => "tick",
+            Kind::Numbered => "numbered",
+            Kind::Named => "named",
+            Kind::Unnamed => "unnamed",
+            Kind::Prepare => "prepare",
+            Kind::Promise => "promise",
+            Kind::Accept => "accept",
+            Kind::Voted => "voted",
+            Kind::Higher => "higher",
+            Kind::Known => "known",
         }
     }
 }
@@ -126,6 +146,14 @@ impl Group {
                 Kind::Hear,
                 Kind::Want,
                 Kind::Tick,
+            ],
+            Group::Notes => &[
+                Kind::Prepare,
+                Kind::Promise,
+                Kind::Accept,
+                Kind::Voted,
+                Kind::Higher,
+                Kind::Known,
             ],
         }
     }

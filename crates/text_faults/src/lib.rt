@@ -11,7 +11,7 @@ mod wants;
 
 pub use fault::{Fault, Found, Place};
 pub use kind::{Group, Kind};
-pub use row::{Key, Wants};
+pub use row::{Choice, Key, Wants};
 pub use search::{plan_faults, script_faults};
 pub use texts::fault_text;
 pub use unread::{Unread, plan_unread, script_unread, unread_text};

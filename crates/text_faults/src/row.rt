@@ -44,6 +44,10 @@ pub enum Key {
     Near,
     Slot,
     Random,
+    From,
+    Note,
+    Ballot,
+    Again,
 }
 
 /// What is wanted at a key.
@@ -61,6 +65,8 @@ pub enum Wants {
     Name(Group),
     /// The same, or nothing.
     NameOrNothing(Group),
+    /// Whether something is so, or nothing.
+    FlagOrNothing,
     /// How many nodes a script may have.
     Members,
     /// An array of tables, or nothing.
@@ -71,6 +77,17 @@ pub enum Wants {
     Hex,
     /// Nothing, where a command is there.
     Nothing,
+    /// A letter's number, where no key says whose letter it is.
+    Letter,
+}
+
+/// By what a table is of a further kind.
+#[derive(Clone, Copy, Debug, PartialEq, Eq)]
+pub enum Choice {
+    /// By the name of a kind of this group, which the key holds.
+    Naming(Key, Group),
+    /// By the keys with which it asks for a letter.
+    OfLetter,
 }
 
 pub(crate) const BYTE: Wants = Wants::Number(255);
@@ -89,6 +106,9 @@ pub(crate) const LONG: Wants = Wants::Number(18_446_744_073_709_551_615);
 pub(crate) const LAST: Wants = Wants::NumberOrNothing(18_446_744_073_709_551_615);
 
 pub(crate) const KEEP: Wants = Wants::NumberOrNothing(65_535);
+
+/// A node's number, or nothing.
+pub(crate) const ANY_MEMBER: Wants = Wants::NumberOrNothing(4);
 
 impl Key {
     ghost use Rattle.std.specs.Prelude.{◌≡◌};
@@ -137,6 +157,10 @@ impl Key {
             Key::Near => "near",
             Key::Slot => "slot",
             Key::Random => "random",
+            Key::From => "from",
+            Key::Note => "note",
+            Key::Ballot => "ballot",
+            Key::Again => "again",
         }
     }
 }
@@ -146,8 +170,8 @@ impl Kind {
     ghost use Rattle.text_faults.specs.Rows.{rows_of, choice_of};
     ghost use Rattle.text_faults.specs.Faults.{offers};
 
-    /// The keys that a table of this kind has, and what is wanted there. Behind those of `Command`, of `Event` and of a
-    /// flow come the rows of the kind that they name.
+    /// The keys that a table of this kind has, and what is wanted there. Behind those of `Command`, of `Event`, of a
+    /// flow and of a delivery come the rows of their further kind.
     pub fn rows(self) -> &'static [(Key, Wants)]
         ensures { result.now ≡ rows_of self }
     {
@@ -161,6 +185,9 @@ impl Kind {
             Kind::Command => &[(Key::Kind, Wants::Name(Group::Commands))],
             Kind::Event => &[(Key::Kind, Wants::Name(Group::Events))],
             Kind::Modem | Kind::Noop | Kind::Tdma | Kind::Advanced => &[],
+            Kind::Deliver | Kind::DeliverThenCrash => &[],
+            Kind::Prepare | Kind::Promise | Kind::Accept => &[],
+            Kind::Voted | Kind::Higher | Kind::Known => &[],
             Kind::Channel => &[
                 (Key::Ch, BYTE),
                 (Key::Ucd, BYTE),
@@ -215,7 +242,6 @@ impl Kind {
             ],
             Kind::Lead | Kind::Offer | Kind::Crash | Kind::Restart => &[(Key::Node, LONG)],
             Kind::Tell => &[(Key::Node, LONG), (Key::To, MEMBER), (Key::Place, LONG)],
-            Kind::Deliver | Kind::DeliverThenCrash => &[(Key::Letter, LONG)],
             Kind::Release => &[(Key::Node, LONG), (Key::Now, LONG)],
             Kind::Hear => &[(Key::Modem, LONG), (Key::Output, LONG), (Key::Near, SLOT)],
             Kind::Want => &[
@@ -230,17 +256,33 @@ impl Kind {
                 (Key::Slot, SLOT),
                 (Key::Random, LONG),
             ],
+            Kind::Numbered => &[(Key::Letter, LONG)],
+            Kind::Named => &[
+                (Key::From, ANY_MEMBER),
+                (Key::To, ANY_MEMBER),
+                (Key::Note, Wants::NameOrNothing(Group::Notes)),
+                (Key::Ballot, LAST),
+                (Key::Place, LAST),
+                (Key::Again, Wants::FlagOrNothing),
+            ],
+            Kind::Unnamed => &[
+                (Key::Letter, Wants::Letter),
+                (Key::Ballot, LAST),
+                (Key::Place, LAST),
+                (Key::Again, Wants::FlagOrNothing),
+            ],
         }
     }
 
-    /// The key by which a table of this kind names a further kind, and of which group that is.
-    pub fn choice(self) -> Option<(Key, Group)>
+    /// By what a table of this kind is of a further kind.
+    pub fn choice(self) -> Option<Choice>
         ensures { result ≡ choice_of self }
     {
         match self {
-            Kind::Command => Some((Key::Kind, Group::Commands)),
-            Kind::Event => Some((Key::Kind, Group::Events)),
-            Kind::Flow => Some((Key::Service, Group::Services)),
+            Kind::Command => Some(Choice::Naming(Key::Kind, Group::Commands)),
+            Kind::Event => Some(Choice::Naming(Key::Kind, Group::Events)),
+            Kind::Flow => Some(Choice::Naming(Key::Service, Group::Services)),
+            Kind::Deliver | Kind::DeliverThenCrash => Some(Choice::OfLetter),
             _ => None,
         }
     }

@@ -8,11 +8,14 @@ ghost use Rattle.text_faults.specs.Rows.{key_name};
 ghost use Rattle.text_faults.specs.Items.{items_at};
 ghost use Rattle.text_faults.specs.declared.kind.Kind.TheVariants as kinds;
 ghost use Rattle.text_faults.specs.Unfit.{IsUnfit};
-ghost use Rattle.text_faults.specs.Faults.{fault_at, key_faults, chosen, kind_faults, table_faults, is_hex, is_offer, value_fault, offered_faults, command_faults, event_faults, id_faults, numbered, plan_faults, script_faults, IsPlanTable, IsScript, TellsWhether};
+ghost use Rattle.text_faults.specs.Faults.{fault_at, key_faults, chosen, kind_faults, table_faults, is_hex, is_offer};
+ghost use Rattle.text_faults.specs.Faults.{letter_kind, named_in, says_whose};
+ghost use Rattle.text_faults.specs.Faults.{value_fault, offered_faults, command_faults, event_faults, id_faults};
+ghost use Rattle.text_faults.specs.Faults.{numbered, plan_faults, script_faults, IsPlanTable, IsScript, TellsWhether};
 
 use crate::fault::{Fault, Found, Place, found_in};
-use crate::kind::Kind;
-use crate::row::{Key, WORD, Wants};
+use crate::kind::{Group, Kind};
+use crate::row::{Choice, Key, WORD, Wants};
 use hex::FromHexError;
 use std::alloc::{AllocError, Global};
 use toml::Value;
@@ -54,13 +57,43 @@ fn note_keys(
     Ok(())
 }
 
-/// The further kind that a table of a kind names.
+/// Whether one of the keys is there that say from whom, to whom, or of what kind a letter is.
+fn says_whose(table: &Value) -> bool
+    ensures { result ≡ says_whose (view table.now) }
+{
+    table.get("from").is_some() || table.get("to").is_some() || table.get("note").is_some()
+}
+
+/// How a table asks for a letter.
+fn letter_kind(table: &Value) -> Kind
+    ensures { result ≡ letter_kind (get (codes "letter") (view table.now)) (says_whose (view table.now)) }
+{
+    if table.get("letter").is_some() {
+        return Kind::Numbered;
+    }
+    if says_whose(table) {
+        Kind::Named
+    } else {
+        Kind::Unnamed
+    }
+}
+
+/// The kind of the group that a key of a table names.
+fn named_at(table: &Value, key: Key, group: Group) -> Option<Kind>
+    ensures { result ≡ named_in group (get (key_name key) (view table.now)) }
+{
+    let name = table.get(key.name())?.as_str()?;
+    group.named(name)
+}
+
+/// The further kind of which a table of a kind is.
 pub(crate) fn chosen(kind: Kind, table: &Value) -> Option<Kind>
     ensures { result ≡ chosen kind (view table.now) }
 {
-    let (key, group) = kind.choice()?;
-    let name = table.get(key.name())?.as_str()?;
-    group.named(name)
+    match kind.choice()? {
+        Choice::Naming(key, group) => named_at(table, key, group),
+        Choice::OfLetter => Some(letter_kind(table)),
+    }
 }
 
 fn note_kind(

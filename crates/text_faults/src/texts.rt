@@ -1,7 +1,8 @@
 //! A fault as text.
 
 ghost use Rattle.std.specs.Prelude.{◌≡◌, IfOk, string_bytes};
-ghost use Rattle.text_faults.specs.Texts.{place_text, subject_text, head_text, number_text, names_text, wanted_text, found_text, fault_text};
+ghost use Rattle.text_faults.specs.Texts.{place_text, subject_text, head_text, number_text, names_text, wanted_text};
+ghost use Rattle.text_faults.specs.Texts.{found_text, fault_text};
 
 use crate::fault::{Fault, Found, Place};
 use crate::kind::{Group, Kind};
@@ -68,11 +69,16 @@ fn wanted_text(alloc: Global, wants: Wants) -> Result<String, AllocError>
             String::from_str(alloc, "two whole numbers from 0 to 255")
         }
         Wants::Name(group) | Wants::NameOrNothing(group) => names_text(alloc, group),
+        Wants::FlagOrNothing => String::from_str(alloc, "true or false"),
         Wants::Members => String::from_str(alloc, "3 or 5"),
         Wants::Tables => String::from_str(alloc, "an array of tables"),
         Wants::Ids => String::from_str(alloc, "an array of whole numbers"),
         Wants::Hex => String::from_str(alloc, "pairs of hexadecimal digits (there is no command)"),
         Wants::Nothing => String::from_str(alloc, "left out (there is a command)"),
+        Wants::Letter => String::from_str(
+            alloc,
+            "a whole number, 0 or more (there is no from, to or note)",
+        ),
     }
 }
 

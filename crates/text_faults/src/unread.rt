@@ -7,7 +7,9 @@ ghost use Rattle.text_faults.specs.declared.kind.Kind.TheVariants as kinds;
 ghost use Rattle.text_faults.specs.declared.fault.Place.TheVariants as places;
 ghost use Rattle.text_faults.specs.Faults.{chosen, numbered};
 ghost use Rattle.text_faults.specs.Rows.{choice_of};
-ghost use Rattle.text_faults.specs.Unread.{key_there, has_row, is_offered, has_key, is_read, unread_keys, unread_of_kind, unread_of_kinds, unread_in, offered_unread, command_unread, event_unread, plan_unread, script_unread, is_bare, name_text, unread_text};
+ghost use Rattle.text_faults.specs.Unread.{key_there, has_row, is_offered, has_key, is_read, unread_keys};
+ghost use Rattle.text_faults.specs.Unread.{unread_of_kind, unread_of_kinds, unread_in, offered_unread, command_unread};
+ghost use Rattle.text_faults.specs.Unread.{event_unread, plan_unread, script_unread, is_bare, name_text, unread_text};
 
 use crate::fault::Place;
 use crate::kind::Kind;

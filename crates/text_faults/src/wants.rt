@@ -67,9 +67,10 @@ impl Wants {
             Wants::Number(most) | Wants::NumberOrNothing(most) => is_number(value, most),
             Wants::Bytes | Wants::BytesOrNothing => is_pair(value),
             Wants::Name(group) | Wants::NameOrNothing(group) => is_name(value, group),
+            Wants::FlagOrNothing => value.as_bool().is_some(),
             Wants::Members => is_count(value),
             Wants::Tables | Wants::Ids => value.as_array().is_some(),
-            Wants::Hex | Wants::Nothing => false,
+            Wants::Hex | Wants::Nothing | Wants::Letter => false,
         }
     }
 
@@ -81,10 +82,12 @@ impl Wants {
             Wants::NumberOrNothing(_)
             | Wants::BytesOrNothing
             | Wants::NameOrNothing(_)
+            | Wants::FlagOrNothing
             | Wants::Tables
             | Wants::Ids
             | Wants::Nothing => true,
-            Wants::Number(_) | Wants::Bytes | Wants::Name(_) | Wants::Members | Wants::Hex => false,
+            Wants::Number(_) | Wants::Bytes | Wants::Name(_) => false,
+            Wants::Members | Wants::Hex | Wants::Letter => false,
         }
     }
 

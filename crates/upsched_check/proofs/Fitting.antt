@@ -5,7 +5,8 @@ use Rattle.map_body.proofs.Readings.{spelling_len}
 use Rattle.flow_state.specs.Rows.{Rows}
 use Rattle.grant_machine.specs.declared.command.Command.{Command}
 use Rattle.grant_machine.specs.declared.output.Output.{Output}
-use Rattle.grant_machine.specs.declared.output.Output.TheVariants.{Nothing, ChannelSet, Assigned, Map as MapOutput, Refused}
+use Rattle.grant_machine.specs.declared.output.Output.TheVariants.{Nothing, ChannelSet, Assigned, Map as MapOutput}
+use Rattle.grant_machine.specs.declared.output.Output.TheVariants.{Refused}
 use Rattle.grant_machine.specs.Fits.{FitsCommand}
 use Rattle.grant_machine.specs.Laws.{MapsAreBodiesFrom}
 use Rattle.grant_machine.specs.Runs.{outputs_from, rows_from, IsReached}

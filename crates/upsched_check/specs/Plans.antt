@@ -1,5 +1,6 @@
 -- What the words tell that look into a plan.
-use Rattle.std.specs.Prelude.{◌≡◌, ℕ, ◌≤◌, Bool, true, ◌&&◌, not, is_some, codes, List, [], ◌∷◌, length, Option, Some, None, flat_map}
+use Rattle.std.specs.Prelude.{◌≡◌, ℕ, ◌≤◌, Bool, true, ◌&&◌, not, is_some, codes, List, [], ◌∷◌, length, Option, Some}
+use Rattle.std.specs.Prelude.{None, flat_map}
 use Rattle.std.specs.Io.KnownBytes.{Appends}
 use Rattle.toml.specs.Data.{Data, get, table, Members}
 use Rattle.toml.specs.Parse.{parse_document}

@@ -11,7 +11,8 @@ ghost use Rattle.upsched_ends.specs.Faults.{StopsPrint};
 ghost use Rattle.upsched_ends.specs.declared.fault.Fault.TheVariants.{Memory};
 ghost use Rattle.upsched_ends.specs.declared.status.Status.TheVariants.{Done, NotUnderstood};
 ghost use Rattle.script_text.specs.Plan.{IsPlan, NoPlan};
-ghost use Rattle.upsched_check.specs.Plans.{IsScriptAlone, bodies_in, bodies_of, FitsFrame, CapturesPlan, IsKnownScript};
+ghost use Rattle.upsched_check.specs.Plans.{IsScriptAlone, bodies_in, bodies_of, FitsFrame, CapturesPlan};
+ghost use Rattle.upsched_check.specs.Plans.{IsKnownScript};
 
 use crate::plan_words::{CaptureWords, Refusal, commands_of};
 use grant_machine::{Command, Machine, Output, maps_are_bodies_from};

@@ -11,7 +11,8 @@ ghost use Rattle.script_text.specs.Plan.{NoPlan};
 ghost use Rattle.upsched_json.specs.Lines.{PrintsValue};
 ghost use Rattle.upsched_json.specs.Plans.{text_lines};
 ghost use Rattle.upsched_check.specs.Plans.{IsKnownScript};
-ghost use Rattle.upsched_check.specs.StatsAsJson.{map_value, use_value, sid_value, stats_data, PrintsValues, TellsStatsAsJson};
+ghost use Rattle.upsched_check.specs.StatsAsJson.{map_value, use_value, sid_value, stats_data, PrintsValues};
+ghost use Rattle.upsched_check.specs.StatsAsJson.{TellsStatsAsJson};
 
 use crate::plan_stats::{in_order, rows_of, stats_of, whole_of};
 use crate::plan_words::{Refusal, StatsWords, commands_of};

@@ -11,7 +11,8 @@ ghost use Rattle.map_stats.specs.Held.{Holds};
 ghost use Rattle.upsched_ends.specs.declared.status.Status.TheVariants.{Done, NotUnderstood};
 ghost use Rattle.script_text.specs.Plan.{NoPlan};
 ghost use Rattle.upsched_check.specs.Plans.{IsKnownScript};
-ghost use Rattle.upsched_check.specs.Stats.{map_line, use_line, sid_line, whole_of, stats_lines, HoldsBoth, TellsFlows, TellsStats};
+ghost use Rattle.upsched_check.specs.Stats.{map_line, use_line, sid_line, whole_of, stats_lines, HoldsBoth, TellsFlows};
+ghost use Rattle.upsched_check.specs.Stats.{TellsStats};
 
 use crate::accounts::{add_deed, deed_done};
 use crate::plan_words::{Refusal, StatsWords, commands_of};
@@ -78,13 +79,9 @@ fn print_map<'a, O: Write>(
 ) -> Result<(), Fault<'a>>
     ensures { OnOk result (Appends (O.contents output.old) (O.contents output.new) (map_line (key, tally.now))) }
 {
-    let Ok(text) = map_text(alloc, key, tally) else {
-        return Err(Fault::Memory);
-    };
-    match writeln!(output, "{text}") {
-        Ok(()) => Ok(()),
-        Err(_) => Err(Fault::Output),
-    }
+    let text = map_text(alloc, key, tally)?;
+    writeln!(output, "{text}")?;
+    Ok(())
 }
 
 fn print_maps<'a, O: Write>(alloc: Global, maps: &Tallies, output: &mut O) -> Result<(), Fault<'a>>
@@ -115,13 +112,9 @@ fn print_use<'a, O: Write>(
 ) -> Result<(), Fault<'a>>
     ensures { OnOk result (Appends (O.contents output.old) (O.contents output.new) (use_line maps.now.entries (key, tally.now))) }
 {
-    let Ok(text) = use_text(alloc, key, tally, whole_of(maps, key / 16)) else {
-        return Err(Fault::Memory);
-    };
-    match writeln!(output, "{text}") {
-        Ok(()) => Ok(()),
-        Err(_) => Err(Fault::Output),
-    }
+    let text = use_text(alloc, key, tally, whole_of(maps, key / 16))?;
+    writeln!(output, "{text}")?;
+    Ok(())
 }
 
 fn print_uses<'a, O: Write>(
@@ -146,13 +139,9 @@ fn print_sid<'a, O: Write>(
 ) -> Result<(), Fault<'a>>
     ensures { OnOk result (Appends (O.contents output.old) (O.contents output.new) (sid_line (key, tally.now))) }
 {
-    let Ok(text) = sid_text(alloc, key, tally) else {
-        return Err(Fault::Memory);
-    };
-    match writeln!(output, "{text}") {
-        Ok(()) => Ok(()),
-        Err(_) => Err(Fault::Output),
-    }
+    let text = sid_text(alloc, key, tally)?;
+    writeln!(output, "{text}")?;
+    Ok(())
 }
 
 fn print_sids<'a, O: Write>(alloc: Global, sids: &Tallies, output: &mut O) -> Result<(), Fault<'a>>
@@ -167,13 +156,9 @@ fn print_sids<'a, O: Write>(alloc: Global, sids: &Tallies, output: &mut O) -> Re
 fn print_flow<'a, O: Write>(alloc: Global, row: &FlowRow, output: &mut O) -> Result<(), Fault<'a>>
     ensures { OnOk result (Appends (O.contents output.old) (O.contents output.new) (flow_lines row.now)) }
 {
-    let Ok(text) = flow_text(alloc, row) else {
-        return Err(Fault::Memory);
-    };
-    match write!(output, "{text}") {
-        Ok(()) => Ok(()),
-        Err(_) => Err(Fault::Output),
-    }
+    let text = flow_text(alloc, row)?;
+    write!(output, "{text}")?;
+    Ok(())
 }
 
 fn print_flows<'a, O: Write>(

@@ -1,6 +1,7 @@
 //! `upsched check FILE`: what is wrong with a text, line by line.
 
-ghost use Rattle.std.specs.Prelude.{◌≡◌, ◌≢◌, ◌≤◌, ◌↔◌, IfOk, OnOk, ℕ, List, flat_map, map, length, string_bytes, true, is_some, IfErr};
+ghost use Rattle.std.specs.Prelude.{◌≡◌, ◌≢◌, ◌≤◌, ◌↔◌, IfOk, OnOk, ℕ, List, flat_map, map, length, string_bytes, true};
+ghost use Rattle.std.specs.Prelude.{is_some, IfErr};
 ghost use Rattle.std.specs.Io.KnownBytes.{Appends};
 ghost use Rattle.toml.specs.Data.{table};
 ghost use Rattle.toml.specs.View.{view, table_view};
@@ -88,21 +89,28 @@ fn print_good<'a, O: Write>(
     }
 }
 
+/// What was seen in a table: what it was looked at as, whether it lacks the key of its commands or events, and faults.
+#[derive(Clone, Copy)]
+struct Seen<'a> {
+    form: Form,
+    bare: bool,
+    faults: &'a [TextFault],
+}
+
 fn print_faults<'a, O: Write>(
     alloc: Global,
     path: &str,
-    form: Form,
-    bare: bool,
-    faults: &[TextFault],
+    seen: &Seen<'_>,
     output: &mut O,
 ) -> Result<(), Fault<'a>>
-    ensures printed { OnOk result (Appends (O.contents output.old) (O.contents output.new) (fault_lines path.now form bare faults.now)) }
+    ensures printed { OnOk result (Appends (O.contents output.old) (O.contents output.new)
+        (fault_lines path.now seen.now.form seen.now.bare seen.now.faults.now)) }
     ensures fault { IfErr result StopsPrint }
 {
-    if faults.is_empty() {
-        print_good(alloc, path, form, bare, output)
+    if seen.faults.is_empty() {
+        print_good(alloc, path, seen.form, seen.bare, output)
     } else {
-        print_each(alloc, path, faults, output)
+        print_each(alloc, path, seen.faults, output)
     }
 }
 
@@ -177,8 +185,12 @@ fn print_table<'a, O: Write>(
     let Ok(faults) = faults_of(alloc, form, &whole) else {
         return Err(Fault::Memory);
     };
-    let bare = whole.get(form.key()).is_none();
-    print_faults(alloc, path, form, bare, faults.as_slice(), output)?;
+    let seen = Seen {
+        form,
+        bare: whole.get(form.key()).is_none(),
+        faults: faults.as_slice(),
+    };
+    print_faults(alloc, path, &seen, output)?;
     print_unread(alloc, path, form, &whole, output)?;
     Ok(if faults.is_empty() { Some(form) } else { None })
 }

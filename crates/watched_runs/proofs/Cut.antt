@@ -1,5 +1,6 @@
 -- Rows, cut from the lists of the world that a run left.
-use Rattle.std.proofs.Common.{◌≡◌, ◌<◌, ◌≤◌, ◌+◌, ℕ, zero, suc, List, [], ◌∷◌, ◌++◌, Option, refl, sym, ap, subst, ◌∙◌, length, take, drop, get_or, min, append_assoc, append-nil, take_at, arith}
+use Rattle.std.proofs.Common.{◌≡◌, ◌<◌, ◌+◌, ℕ, zero, suc, List, [], ◌∷◌, ◌++◌, Option, refl, sym, ap, subst, ◌∙◌}
+use Rattle.std.proofs.Common.{length, take, drop, get_or, min, append_assoc, append-nil, take_at, arith}
 use Rattle.std.proofs.lemmas.List.{length-replicate, length-take-le, take_more}
 use Rattle.ballots.specs.declared.letters.Letter.{Letter}
 use Rattle.seats.specs.declared.answer.Answer.{Answer}
@@ -55,7 +56,7 @@ goes_more members n w mid w' (e ∷ events) (r ∷ rows) event row (between, fir
     (between, first, is, goes_more members (n + 1) between mid w' events rows event row goes next (cut ∙ ap (λ k. row_of k event row.answer mid w') count))
 
 -- what was there comes first of what there is, and what is more comes behind it
-front_of : {A : Type 0} (xs ys more zs : List A) → ys ≡ xs ++ more → take (length xs) (ys ++ zs) ≡ xs
+pub front_of : {A : Type 0} (xs ys more zs : List A) → ys ≡ xs ++ more → take (length xs) (ys ++ zs) ≡ xs
 front_of xs ys more zs is = ap (λ l. take (length xs) (l ++ zs)) is ∙ ap (take (length xs)) (append_assoc xs more zs) ∙ take_at xs (more ++ zs) (length xs) refl
 
 -- the row that is cut for an event is that of the worlds before and behind it
@@ -88,32 +89,41 @@ pub record Cut (members : ℕ) (w : Written) (events : List Event) (marks : List
 pub none_cut : (members : ℕ) (w : Written) (events : List Event) (marks : List Mark) → marks ≡ [] → Cut members w (take 0 events) marks w
 none_cut members w events marks none = record { rows = []; goes = refl; cut = λ ls os. refl }
 
+-- and of one event more behind all
+pub cut_more : (members : ℕ) (w mid w' : Written) (events : List Event) (event : Event) (marks : List Mark) (mark : Mark) → length marks ≡ length events
+    → (before : Cut members w events marks mid) → Next members mid event mark.answer w' → mark ≡ noted event mark.answer mid w'
+    → (now : Cut members w (events ++ event ∷ []) (marks ++ mark ∷ []) w') × (now.rows ≡ before.rows ++ row_of (length events) event mark.answer mid w' ∷ [])
+cut_more members w mid w' events event marks mark size before next is_noted =
+    let row : Row = row_of (length events) event mark.answer mid w' in
+    let more : Grown mid w' = grown members mid w' event mark.answer next in
+    let number : length events ≡ 0 + length events = omega arith in (
+      record {
+        rows = before.rows ++ row ∷ [];
+        goes = goes_more members 0 w mid w' events before.rows event row before.goes next (ap (λ k. row_of k event mark.answer mid w') number);
+        cut = λ ls os.
+            let letters : w'.letters ++ ls ≡ mid.letters ++ (more.letters ++ ls) = ap (λ l. l ++ ls) more.sent ∙ append_assoc mid.letters more.letters ls in
+            let outputs : w'.outputs ++ os ≡ mid.outputs ++ (more.outputs ++ os) = ap (λ l. l ++ os) more.released ∙ append_assoc mid.outputs more.outputs os in
+            let earlier : rows_from 0 events marks (w'.letters ++ ls) (w'.outputs ++ os) ≡ before.rows =
+            ap (λ l. rows_from 0 events marks l (w'.outputs ++ os)) letters
+            ∙ ap (λ o. rows_from 0 events marks (mid.letters ++ (more.letters ++ ls)) o) outputs
+            ∙ before.cut (more.letters ++ ls) (more.outputs ++ os) in
+            let last : row_at (0 + length events) event mark (w'.letters ++ ls) (w'.outputs ++ os) ≡ row =
+            ap (λ k. row_at k event mark (w'.letters ++ ls) (w'.outputs ++ os)) (sym number)
+            ∙ ap (λ (m : Mark). row_at (length events) event m (w'.letters ++ ls) (w'.outputs ++ os)) is_noted
+            ∙ row_cut (length events) event mark.answer mid w' ls os more in
+            rows_more 0 events event marks mark (w'.letters ++ ls) (w'.outputs ++ os) (sym size)
+            ∙ (λ j. earlier j ++ last j ∷ []);
+      },
+      refl,
+    )
+
 pub one_cut : (members : ℕ) (w mid w' : Written) (events : List Event) (i : ℕ) (event : Event) (marks : List Mark) (mark : Mark) → i < length events → event ≡ get_or events i event → length marks ≡ i
     → Cut members w (take i events) marks mid → Next members mid event mark.answer w' → mark ≡ noted event mark.answer mid w' → Cut members w (take (i + 1) events) (marks ++ mark ∷ []) w'
 one_cut members w mid w' events i event marks mark lt is size before next is_noted =
-    let row : Row = row_of i event mark.answer mid w' in
     let count : length (take i events) ≡ i = length-take-le i events (omega (arith, lt)) in
     let whole : take (i + 1) events ≡ take i events ++ event ∷ [] = take_more events i event lt ∙ ap (λ (e : Event). take i events ++ e ∷ []) (sym is) in
-    let more : Grown mid w' = grown members mid w' event mark.answer next in
-    let number : i ≡ 0 + length (take i events) = omega (arith, count) in
-    let goes = goes_more members 0 w mid w' (take i events) before.rows event row before.goes next (ap (λ k. row_of k event mark.answer mid w') number) in record {
-      rows = before.rows ++ row ∷ [];
-      goes = subst (λ (es : List Event). GoesInRows members 0 w es (before.rows ++ row ∷ []) w') (sym whole) goes;
-      cut = λ ls os.
-          let letters : w'.letters ++ ls ≡ mid.letters ++ (more.letters ++ ls) = ap (λ l. l ++ ls) more.sent ∙ append_assoc mid.letters more.letters ls in
-          let outputs : w'.outputs ++ os ≡ mid.outputs ++ (more.outputs ++ os) = ap (λ l. l ++ os) more.released ∙ append_assoc mid.outputs more.outputs os in
-          let earlier : rows_from 0 (take i events) marks (w'.letters ++ ls) (w'.outputs ++ os) ≡ before.rows =
-          ap (λ l. rows_from 0 (take i events) marks l (w'.outputs ++ os)) letters
-          ∙ ap (λ o. rows_from 0 (take i events) marks (mid.letters ++ (more.letters ++ ls)) o) outputs
-          ∙ before.cut (more.letters ++ ls) (more.outputs ++ os) in
-          let last : row_at (0 + length (take i events)) event mark (w'.letters ++ ls) (w'.outputs ++ os) ≡ row =
-          ap (λ k. row_at k event mark (w'.letters ++ ls) (w'.outputs ++ os)) (sym number)
-          ∙ ap (λ (m : Mark). row_at i event m (w'.letters ++ ls) (w'.outputs ++ os)) is_noted
-          ∙ row_cut i event mark.answer mid w' ls os more in
-          ap (λ (es : List Event). rows_from 0 es (marks ++ mark ∷ []) (w'.letters ++ ls) (w'.outputs ++ os)) whole
-          ∙ rows_more 0 (take i events) event marks mark (w'.letters ++ ls) (w'.outputs ++ os) (count ∙ sym size)
-          ∙ (λ j. earlier j ++ last j ∷ []);
-    }
+    subst (λ (es : List Event). Cut members w es (marks ++ mark ∷ []) w') (sym whole)
+    (cut_more members w mid w' (take i events) event marks mark (size ∙ sym count) before next is_noted).0
 
 -- all rows
 pub all_cut : (members : ℕ) (w w' : Written) (events : List Event) (i : ℕ) (marks : List Mark) → take i events ≡ events → Cut members w (take i events) marks w'

@@ -1,3 +1,4 @@
 mod Seeing
 mod Growth
 mod Cut
+mod Followed

@@ -1,5 +1,6 @@
 -- What is seen of a node at its place.
-use Rattle.std.proofs.Common.{◌≡◌, ◌<◌, ◌≤◌, ℕ, Bool, true, false, List, Option, Some, None, sym, ap, subst, ◌∙◌, length, get_or, slice_get, is_some, arith}
+use Rattle.std.proofs.Common.{◌≡◌, ◌<◌, ◌≤◌, ℕ, Bool, true, false, List, Option, Some, None, sym, ap, subst, ◌∙◌}
+use Rattle.std.proofs.Common.{length, get_or, slice_get, is_some, arith}
 use Rattle.std.proofs.lemmas.Option.{slice_get_past}
 use Rattle.node.specs.declared.node.Node.{Ghosts}
 use Rattle.ballots.specs.Rows.{at}
@@ -15,7 +16,7 @@ use Rattle.network_script.proofs.Callers.{each_at, standings_length}
 use Rattle.watched_runs.specs.Posts.{changed, post_at, post_of}
 use Rattle.watched_runs.specs.Sights.{has_learned, knows, newly, sight_of}
 use Rattle.watched_runs.specs.declared.post.Post.{Post}
-use Rattle.watched_runs.specs.declared.post.Post.TheVariants.{Idle}
+use Rattle.watched_runs.specs.declared.post.Post.TheVariants.{Down}
 use Rattle.watched_runs.specs.declared.sight.Sight.{Sight}
 
 -- what is said of each standing of a seat is said of the standing at its place
@@ -32,11 +33,11 @@ post_seen may true s role post is (there, view, running) known same =
     rw running (same ∙ ap post_of (sym (known view (subst may running there))))
 post_seen may false s role post is shown known same = absurd (cc (is))
 
--- one that is down does nothing
-pub idle_seen : (may : Standing → Type 0) (up : Bool) (s : Standing) (post : Post) → up ≡ false → Shown up may s → post ≡ Idle → post ≡ post_at (Some s)
-idle_seen may false s post is (Running view, there, crashed) same = rw crashed same
-idle_seen may false s post is (Stopped c doubt, there, crashed) same = rw crashed same
-idle_seen may true s post is shown same = absurd (cc (is))
+-- one that is down is seen so
+pub down_seen : (may : Standing → Type 0) (up : Bool) (s : Standing) (post : Post) → up ≡ false → Shown up may s → post ≡ Down → post ≡ post_at (Some s)
+down_seen may false s post is (Running view, there, crashed) same = rw crashed same
+down_seen may false s post is (Stopped c doubt, there, crashed) same = rw crashed same
+down_seen may true s post is shown same = absurd (cc (is))
 
 -- what a node that is up has learned
 pub learned_seen : (may : Standing → Type 0) (up : Bool) (s : Standing) (values : List (ℕ × List ℕ)) (place : ℕ) (b : Bool)

@@ -2,6 +2,8 @@ pub mod Posts
 pub mod Sights
 pub mod Rows
 pub mod Marks
+pub mod Steps
+pub mod Following
 pub mod Shown
 pub mod Texts
 pub mod Choices

@@ -7,7 +7,8 @@ use Rattle.ballots.specs.Rows.{at}
 use Rattle.node.specs.View.{Standing}
 use Rattle.node.specs.View.Standing.{Running}
 use Rattle.world_events.specs.declared.event.Event.{Event}
-use Rattle.world_events.specs.declared.event.Event.TheVariants.{Lead, Offer, Tell, Deliver, DeliverThenCrash, Crash, Restart, Release, Hear, Want, Tick}
+use Rattle.world_events.specs.declared.event.Event.TheVariants.{Lead, Offer, Tell, Deliver, DeliverThenCrash, Crash}
+use Rattle.world_events.specs.declared.event.Event.TheVariants.{Restart, Release, Hear, Want, Tick}
 use Rattle.network_script.specs.World.{Written}
 use Rattle.watched_runs.specs.Posts.{changed, post_at}
 use Rattle.watched_runs.specs.declared.sight.Sight.{Sight}

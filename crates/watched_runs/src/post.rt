@@ -1,15 +1,16 @@
 //! Who prepares and who leads.
 
 ghost use Rattle.std.specs.Prelude.{◌≡◌};
-ghost use Rattle.watched_runs.specs.declared.post.Post.TheVariants.{Idle, Prepares, Leads};
+ghost use Rattle.watched_runs.specs.declared.post.Post.TheVariants.{Down, Idle, Prepares, Leads};
 ghost use Rattle.watched_runs.specs.Posts.{changed, post_of, same_post};
 
 use ballots::Ballot;
 use proposer::Role;
 
-/// What a node does as a proposer: nothing, or it prepares or leads a ballot.
+/// What a node does as a proposer: nothing, since it is down or is idle, or it prepares or leads a ballot.
 #[derive(Clone, Copy)]
 pub enum Post {
+    Down,
     Idle,
     Prepares(Ballot),
     Leads(Ballot),
@@ -23,6 +24,16 @@ pub(crate) fn post_of(role: &Role) -> Post
         Role::Idle => Post::Idle,
         Role::Preparing { ballot, .. } => Post::Prepares(*ballot),
         Role::Leading { ballot, .. } => Post::Leads(*ballot),
+    }
+}
+
+/// Whether a node is down.
+fn is_down(post: &Post) -> bool
+    ensures { result ≡ same_post Down post.now }
+{
+    match post {
+        Post::Down => true,
+        _ => false,
     }
 }
 
@@ -61,6 +72,7 @@ fn same_post(before: &Post, after: &Post) -> bool
     ensures { result ≡ same_post before.now after.now }
 {
     match before {
+        Post::Down => is_down(after),
         Post::Idle => is_idle(after),
         Post::Prepares(ballot) => prepares(ballot.number(), after),
         Post::Leads(ballot) => leads(ballot.number(), after),
@@ -71,6 +83,7 @@ fn copy_of(post: &Post) -> Post
     ensures { result ≡ post.now }
 {
     match post {
+        Post::Down => Post::Down,
         Post::Idle => Post::Idle,
         Post::Prepares(ballot) => Post::Prepares(*ballot),
         Post::Leads(ballot) => Post::Leads(*ballot),

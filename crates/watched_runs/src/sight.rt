@@ -84,12 +84,12 @@ pub(crate) fn place_of(letters: &[Letter], event: &Event) -> Option<u64>
     }
 }
 
-/// The post of a node in its seat: one that is down does nothing.
+/// The post of a node in its seat.
 fn post_of_seat<N: Node>(seat: &Seat<N>) -> Post
     ensures { (s : Standing) → Stands seat.now s → result ≡ post_at (Some s) }
 {
     if !seat.is_up() {
-        return Post::Idle;
+        return Post::Down;
     }
     post_of(seat.node().role())
 }

@@ -88,7 +88,7 @@ fn step<N: Node>(
 }
 
 /// One event, and what is noted of it.
-fn note<N: Node>(world: &mut World<N>, event: &Event) -> Result<Mark, OutOfMemory>
+pub(crate) fn note<N: Node>(world: &mut World<N>, event: &Event) -> Result<Mark, OutOfMemory>
     ensures honesty { AreHonest world.new → AreHonest world.old }
     ensures members { node_count world.new ≡ node_count world.old }
     ensures run { IfOk result (λ mark. AreHonest world.new → (w : Written) → StandsFor world.old w →

@@ -1,4 +1,4 @@
-use Rattle.std.proofs.Common.{length, ap, ◌∙◌}
+use Rattle.std.proofs.Common.{length, ap}
 use Rattle.watched_runs.proofs.Cut.{noted_so}
 use Rattle.watched_runs.proofs.watching.note.Goals as goal
 

@@ -1,4 +1,4 @@
-use Rattle.std.proofs.Common.{◌≡◌, ◌∙◌, ◌+◌, ap, sym, refl, length, take, arith}
+use Rattle.std.proofs.Common.{◌≡◌, ◌∙◌, ◌+◌, ap, sym, refl, length, take}
 use Rattle.std.proofs.lemmas.List.{length-append, take_all}
 use Rattle.network_script.proofs.Callers.{standings_length}
 use Rattle.watched_runs.proofs.Cut.{all_cut, none_cut, one_cut}

@@ -1,7 +1,6 @@
-use Rattle.std.proofs.Common.{ℕ, List, length, map, refl}
+use Rattle.std.proofs.Common.{ℕ, List, length, map}
 use Rattle.modem.specs.State.{State}
 use Rattle.network_script.specs.World.{opening}
-use Rattle.watched_runs.specs.Marks.{seen_in}
 use Rattle.watched_runs.proofs.Cut.{is_run}
 use Rattle.watched_runs.proofs.watching.watch.Goals as goal
 

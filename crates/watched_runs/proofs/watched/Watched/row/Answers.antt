@@ -1,5 +1,4 @@
-use Rattle.std.proofs.Common.{◌∙◌, ap}
-use Rattle.watched_runs.specs.Marks.{rows_from}
+use Rattle.std.proofs.Common.{◌∙◌}
 use Rattle.watched_runs.specs.Shown.{shown}
 use Rattle.watched_runs.proofs.Cut.{row_here, rows_length, rows_marked}
 use Rattle.watched_runs.proofs.watched.Watched.row.Goals as goal

@@ -1,0 +1,4 @@
+pub mod Names
+pub mod Came
+pub mod Kept
+pub mod Plain
