@@ -8,7 +8,8 @@ use Rattle.modem.specs.Wants.{number_of_fault}
 use Rattle.proposer.specs.Faults.{node_fault_number}
 use Rattle.world_events.specs.Refusals.{event_refusal_number}
 use Rattle.seats.specs.declared.answer.Answer.{Answer}
-use Rattle.seats.specs.declared.answer.Answer.TheVariants.{Sent, Finished, Released, Heard, Ticked, WantRefused, Refused, Fault, Crashed}
+use Rattle.seats.specs.declared.answer.Answer.TheVariants.{Sent, Finished, Released, Heard, Ticked, WantRefused}
+use Rattle.seats.specs.declared.answer.Answer.TheVariants.{Refused, Fault, Crashed}
 use Rattle.seats.specs.declared.answer.ReleasedOutput.{ReleasedOutput}
 use Rattle.printed_answers.specs.Texts.{heard_text, refusal_name, fault_name}
 use Rattle.serde_json.specs.Data.{Data, array, object, Members, no_members, put, depth, items_depth}
@@ -16,15 +17,17 @@ use Rattle.serde_json.specs.View.{items_of}
 use Rattle.serde_json.specs.Written.{items_have_float}
 use Rattle.json_outputs.specs.Fields.{with_number}
 use Rattle.json_outputs.specs.Texts.{IsPlain}
-use Rattle.json_outputs.proofs.Callers.{Small, AreSmall, both, none_small, field_small, with_number_small, with_text_small, with_time_small, object_small, output_small}
+use Rattle.json_outputs.proofs.Callers.{Small, AreSmall, both, none_small, field_small, with_number_small}
+use Rattle.json_outputs.proofs.Callers.{with_text_small, with_time_small, object_small, output_small}
 use Rattle.watched_runs.specs.Rows.{Row}
 use Rattle.watched_runs.specs.declared.post.Post.{Post}
-use Rattle.watched_runs.specs.declared.post.Post.TheVariants.{Idle, Prepares, Leads}
+use Rattle.watched_runs.specs.declared.post.Post.TheVariants.{Down, Idle, Prepares, Leads}
 use Rattle.watched_runs.specs.declared.sight.Sight.{Sight}
 use Rattle.json_answers.proofs.PlainLetters.{letters_small}
 use Rattle.json_answers.specs.Names.{want_fault_name}
 use Rattle.json_answers.specs.Answers.{with_name, with_sid, with_sending, with_fault, with_answer}
-use Rattle.json_answers.specs.Events.{place_members, TellsRelease, TellsEvent, event_members, counts_data, with_changed, with_learned, with_sight, with_trace}
+use Rattle.json_answers.specs.Events.{place_members, TellsRelease, TellsEvent, event_members, counts_data, with_changed}
+use Rattle.json_answers.specs.Events.{with_learned, with_sight, with_trace}
 
 -- the fields of an answer
 name_small : (k : ℕ) (name : List ℕ) (ms : Members) → AreSmall k ms → AreSmall k (with_name name ms)
@@ -95,6 +98,7 @@ event_plain row ds told = object_plain _ (fields_small row ds told)
 
 post_small : (k : ℕ) (post : Option Post) (ms : Members) → AreSmall k ms → AreSmall k (with_changed post ms)
 post_small k None ms xs = xs
+post_small k (Some Down) ms xs = with_text_small k (codes "post") (codes "down") ms xs
 post_small k (Some Idle) ms xs = with_text_small k (codes "post") (codes "idle") ms xs
 post_small k (Some (Prepares b)) ms xs = with_time_small k (codes "ballot") b _ (with_text_small k (codes "post") (codes "prepares") ms xs)
 post_small k (Some (Leads b)) ms xs = with_time_small k (codes "ballot") b _ (with_text_small k (codes "post") (codes "leads") ms xs)

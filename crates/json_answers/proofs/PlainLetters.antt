@@ -9,13 +9,17 @@ use Rattle.ballots.specs.declared.letters.Note.TheVariants.{Prepare, Promise, Ac
 use Rattle.serde_json.specs.Data.{Data, array, object, Members, no_members, put, depth, items_depth}
 use Rattle.serde_json.specs.View.{items_of}
 use Rattle.serde_json.specs.Written.{items_have_float}
-use Rattle.json_outputs.proofs.Callers.{Small, AreSmall, both, none_small, field_small, with_number_small, with_text_small, with_time_small, object_small}
+use Rattle.json_outputs.proofs.Callers.{Small, AreSmall, both, none_small, field_small, with_number_small}
+use Rattle.json_outputs.proofs.Callers.{with_text_small, with_time_small, object_small}
 use Rattle.json_outputs.specs.Fields.{with_text}
-use Rattle.json_answers.specs.Letters.{with_ballot, with_value, with_cast, vote_data, with_votes, with_note, letter_data, letters_from, with_letters}
+use Rattle.json_answers.specs.Letters.{with_ballot, with_value, with_cast, vote_data, with_votes, with_note}
+use Rattle.json_answers.specs.Letters.{letter_data, letters_from, with_letters, words_of}
+
+value_small : (k : ℕ) (v : List ℕ) (ms : Members) → AreSmall k ms → AreSmall k (with_value v ms)
+value_small k v ms xs = with_text_small k (codes "command") (words_of v) _ (with_text_small k (codes "value") (encode_lower v) ms xs)
 
 cast_small : (k b p : ℕ) (v : List ℕ) (ms : Members) → AreSmall k ms → AreSmall k (with_cast b p v ms)
-cast_small k b p v ms xs =
-    with_text_small k (codes "value") (encode_lower v) _ (with_number_small k (codes "place") p _ (with_time_small k (codes "ballot") b ms xs))
+cast_small k b p v ms xs = value_small k v _ (with_number_small k (codes "place") p _ (with_time_small k (codes "ballot") b ms xs))
 
 vote_small : (row : ℕ × Cast) → Small 1 (vote_data row)
 vote_small row = object_small 0 _ (cast_small 0 row.1.ballot row.0 row.1.value no_members (none_small 0))
@@ -43,8 +47,7 @@ note_small (Promise b p votes) ms xs =
 note_small (Accept b p v) ms xs = cast_small 2 b p v _ (kind_small (codes "accept") ms xs)
 note_small (Voted b p v) ms xs = cast_small 2 b p v _ (kind_small (codes "voted") ms xs)
 note_small (Higher b) ms xs = with_time_small 2 (codes "ballot") b _ (kind_small (codes "higher") ms xs)
-note_small (Known p v) ms xs =
-    with_text_small 2 (codes "value") (encode_lower v) _ (with_number_small 2 (codes "place") p _ (kind_small (codes "known") ms xs))
+note_small (Known p v) ms xs = value_small 2 v _ (with_number_small 2 (codes "place") p _ (kind_small (codes "known") ms xs))
 
 letter_small : (n : ℕ) (l : Letter) → Small 3 (letter_data n l)
 letter_small n l =

@@ -1,5 +1,6 @@
 -- What is said of an event, from what each step left.
-use Rattle.std.proofs.Common.{◌≡◌, ℕ, ◌+◌, ◌<◌, List, [], ◌∷◌, ◌++◌, length, take, get_or, map, subst, codes, Result, Ok, Err, IfOk, ap, sym, ◌∙◌, String, BTreeMap, Global, Vec, string_bytes}
+use Rattle.std.proofs.Common.{◌≡◌, ℕ, ◌+◌, ◌<◌, List, [], ◌∷◌, ◌++◌, length, take, get_or, map, subst, codes, Result}
+use Rattle.std.proofs.Common.{Ok, Err, IfOk, ap, sym, ◌∙◌, String, BTreeMap, Global, Vec, string_bytes}
 use Rattle.std.proofs.lemmas.List.{take_more, map-append}
 use Rattle.std.proofs.lemmas.Slice.Zip.{all_zipped_more}
 use Rattle.std.specs.List.{AllZip}

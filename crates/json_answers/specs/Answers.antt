@@ -6,7 +6,8 @@ use Rattle.modem.specs.Wants.{number_of_fault}
 use Rattle.proposer.specs.Faults.{node_fault_number}
 use Rattle.world_events.specs.Refusals.{event_refusal_number}
 use Rattle.seats.specs.declared.answer.Answer.{Answer}
-use Rattle.seats.specs.declared.answer.Answer.TheVariants.{Sent, Finished, Released, Heard, Ticked, WantRefused, Refused, Fault, Crashed}
+use Rattle.seats.specs.declared.answer.Answer.TheVariants.{Sent, Finished, Released, Heard, Ticked, WantRefused}
+use Rattle.seats.specs.declared.answer.Answer.TheVariants.{Refused, Fault, Crashed}
 use Rattle.printed_answers.specs.Texts.{heard_text, refusal_name, fault_name}
 use Rattle.serde_json.specs.Data.{Members}
 use Rattle.json_outputs.specs.Fields.{with_number, with_text}

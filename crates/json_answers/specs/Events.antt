@@ -8,7 +8,7 @@ use Rattle.json_outputs.specs.Fields.{with_number, with_text}
 use Rattle.json_outputs.specs.Outputs.{TellsOutput}
 use Rattle.watched_runs.specs.Rows.{Row}
 use Rattle.watched_runs.specs.declared.post.Post.{Post}
-use Rattle.watched_runs.specs.declared.post.Post.TheVariants.{Idle, Prepares, Leads}
+use Rattle.watched_runs.specs.declared.post.Post.TheVariants.{Down, Idle, Prepares, Leads}
 use Rattle.watched_runs.specs.declared.sight.Sight.{Sight}
 use Rattle.json_answers.specs.Letters.{with_ballot, with_letters}
 use Rattle.json_answers.specs.Answers.{with_answer}
@@ -36,6 +36,7 @@ with_post_of post ballot ms = with_ballot ballot (with_text (codes "post") post 
 
 -- with what a node does as a proposer
 abbrev pub with_post : Post → Members → Members
+with_post Down ms = with_text (codes "post") (codes "down") ms
 with_post Idle ms = with_text (codes "post") (codes "idle") ms
 with_post (Prepares ballot) ms = with_post_of (codes "prepares") ballot ms
 with_post (Leads ballot) ms = with_post_of (codes "leads") ballot ms

@@ -8,14 +8,19 @@ use Rattle.ballots.specs.declared.letters.Note.TheVariants.{Prepare, Promise, Ac
 use Rattle.serde_json.specs.Data.{Data, array, object, Members, no_members, put}
 use Rattle.serde_json.specs.View.{items_of}
 use Rattle.json_outputs.specs.Fields.{with_number, with_text, with_time}
+use Rattle.command_words.specs.Commands.{value_text}
 
 -- with a ballot: a text, in decimal, as times are
 abbrev pub with_ballot : ℕ → Members → Members
 with_ballot ballot ms = with_time (codes "ballot") ballot ms
 
--- with the bytes of a value
+-- the command that a value spells
+unfoldable pub words_of : List ℕ → List ℕ
+words_of value = value_text value
+
+-- with the bytes of a value, and the command that it spells
 abbrev pub with_value : List ℕ → Members → Members
-with_value value ms = with_text (codes "value") (encode_lower value) ms
+with_value value ms = with_text (codes "command") (words_of value) (with_text (codes "value") (encode_lower value) ms)
 
 -- with a ballot, a place, and the value that is for it
 abbrev pub with_cast : (ballot place : ℕ) → List ℕ → Members → Members

@@ -1,11 +1,13 @@
 //! A letter as an object.
 
-ghost use Rattle.std.specs.Prelude.{◌≡◌, IfOk, OnOk, map};
+ghost use Rattle.std.specs.Prelude.{◌≡◌, IfOk, OnOk, codes, map, string_bytes};
+ghost use Rattle.json_outputs.specs.Fields.{with_text};
 ghost use Rattle.serde_json.specs.View.{view, members_view};
 ghost use Rattle.json_answers.specs.Letters.{with_ballot, with_value, with_cast, vote_data, with_votes, with_note};
-ghost use Rattle.json_answers.specs.Letters.{letter_data, letters_from, with_letters};
+ghost use Rattle.json_answers.specs.Letters.{letter_data, letters_from, with_letters, words_of};
 
 use ballots::{Ballot, Bytes, Cast, Letter, Note, Votes};
+use command_words::value_text;
 use json_outputs::{put_number, put_text, put_time};
 use serde_json::{Map, Value, put};
 use std::alloc::{AllocError, Global};
@@ -18,12 +20,29 @@ fn put_ballot(map: &mut Map<String, Value>, alloc: Global, ballot: Ballot) -> Re
     put_time(map, alloc, "ballot", ballot.number())
 }
 
-/// Puts a value's bytes.
+/// The command that a value spells.
+#[tactic(auto, unfolding(crate::specs::Letters::words_of))]
+fn words_of(alloc: Global, value: &Bytes) -> Result<String, AllocError>
+    ensures { IfOk result (λ text. string_bytes text ≡ words_of value.now) }
+{
+    value_text(alloc, value)
+}
+
+/// Puts the command that a value spells.
+fn put_words(map: &mut Map<String, Value>, alloc: Global, value: &Bytes) -> Result<(), AllocError>
+    ensures { OnOk result (members_view map.new.entries ≡ with_text (codes "command") (words_of value.now) (members_view map.old.entries)) }
+{
+    let words = words_of(alloc, value)?;
+    put_text(map, alloc, "command", words.as_str())
+}
+
+/// Puts a value's bytes, and the command that it spells.
 fn put_value(map: &mut Map<String, Value>, alloc: Global, value: &Bytes) -> Result<(), AllocError>
     ensures { OnOk result (members_view map.new.entries ≡ with_value value.now (members_view map.old.entries)) }
 {
     let hex = hex::encode(alloc, value.as_slice())?;
-    put_text(map, alloc, "value", hex.as_str())
+    put_text(map, alloc, "value", hex.as_str())?;
+    put_words(map, alloc, value)
 }
 
 /// Puts a ballot, a place and the value that is for it.

@@ -33,6 +33,7 @@ fn put_post(map: &mut Map<String, Value>, alloc: Global, post: Post) -> Result<(
     ensures { OnOk result (members_view map.new.entries ≡ with_post post (members_view map.old.entries)) }
 {
     match post {
+        Post::Down => put_text(map, alloc, "post", "down"),
         Post::Idle => put_text(map, alloc, "post", "idle"),
         Post::Prepares(ballot) => put_with_ballot(map, alloc, "prepares", ballot),
         Post::Leads(ballot) => put_with_ballot(map, alloc, "leads", ballot),

@@ -12,7 +12,8 @@ use Rattle.world_events.specs.Refusals.{event_refusal_number}
 use Rattle.world_events.specs.declared.refusal.EventRefusal.{EventRefusal}
 use Rattle.world_events.specs.declared.refusal.EventRefusal.TheVariants as refusal
 use Rattle.seats.specs.declared.answer.Answer.{Answer}
-use Rattle.seats.specs.declared.answer.Answer.TheVariants.{Sent, Finished, Released, Heard as HeardSo, Ticked, WantRefused, Refused, Fault, Crashed}
+use Rattle.seats.specs.declared.answer.Answer.TheVariants.{Sent, Finished, Released, Heard as HeardSo, Ticked}
+use Rattle.seats.specs.declared.answer.Answer.TheVariants.{WantRefused, Refused, Fault, Crashed}
 
 -- what a modem made of an output
 abbrev pub heard_text : Heard → List ℕ

@@ -1,11 +1,13 @@
--- Events and scripts as text, an event a line. Numbers are decimal, and bytes are hexadecimal in lower case.
+-- Events and scripts as text, an event a line, and above an offer its command. Numbers are decimal, and bytes are hexadecimal in lower case.
 use Rattle.std.specs.Prelude.{ℕ, List, [], ◌∷◌, ◌++◌, codes, decimal}
 use Rattle.std.specs.List.{flat_map}
 use Rattle.hex.specs.Hex.{encode_lower}
 use Rattle.ballots.specs.declared.members.Members.{Members}
 use Rattle.ballots.specs.Members.{member_count}
 use Rattle.world_events.specs.declared.event.Event.{Event}
-use Rattle.world_events.specs.declared.event.Event.TheVariants.{Lead, Offer, Tell, Deliver, DeliverThenCrash, Crash, Restart, Release, Hear, Want, Tick}
+use Rattle.world_events.specs.declared.event.Event.TheVariants.{Lead, Offer, Tell, Deliver, DeliverThenCrash, Crash}
+use Rattle.world_events.specs.declared.event.Event.TheVariants.{Restart, Release, Hear, Want, Tick}
+use Rattle.command_words.specs.Commands.{value_text}
 
 -- the table of an event
 abbrev pub event_text : Event → List ℕ
@@ -27,9 +29,14 @@ event_text (Tick m ch slot random) =
     codes "{ kind = \"tick\", modem = " ++ (decimal m ++ (codes ", ch = " ++ (decimal ch
     ++ (codes ", slot = " ++ (decimal slot ++ (codes ", random = " ++ (decimal random ++ codes " }")))))))
 
--- its line
+-- above an offer the command that its value spells, as a comment
+abbrev pub comment : Event → List ℕ
+comment (Offer k value) = codes "  # " ++ (value_text value ++ codes "\n")
+comment other = []
+
+-- its line, behind that
 abbrev pub event_line : Event → List ℕ
-event_line event = codes "  " ++ (event_text event ++ codes ",\n")
+event_line event = comment event ++ (codes "  " ++ (event_text event ++ codes ",\n"))
 
 -- the ids of modems, each but the first behind a comma
 abbrev pub next_id : ℕ → List ℕ

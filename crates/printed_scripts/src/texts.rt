@@ -1,9 +1,11 @@
 //! Events and scripts as text.
 
 ghost use Rattle.std.specs.Prelude.{◌≡◌, ◌++◌, IfOk, OnOk, string_bytes, flat_map};
-ghost use Rattle.printed_scripts.specs.Texts.{event_text, event_line, next_id, ids_text, head_text, script_text};
+ghost use Rattle.printed_scripts.specs.Texts.{comment, event_text, event_line, next_id, ids_text, head_text};
+ghost use Rattle.printed_scripts.specs.Texts.{script_text};
 
 use ballots::Members;
+use command_words::value_text;
 use script_text::Script;
 use std::alloc::{AllocError, Global};
 use world_events::Event;
@@ -47,12 +49,24 @@ fn event_text(alloc: Global, event: &Event) -> Result<String, AllocError>
     }
 }
 
-/// The line of an event.
+/// Above an offer, the command that its value spells, as a comment.
+fn comment(alloc: Global, event: &Event) -> Result<String, AllocError>
+    ensures { IfOk result (λ text. string_bytes text ≡ comment event.now) }
+{
+    let Event::Offer(_, value) = event else {
+        return String::from_str(alloc, "");
+    };
+    let words = value_text(alloc, value)?;
+    format!(in alloc; "  # {words}\n")
+}
+
+/// The line of an event, behind its comment.
 fn event_line(alloc: Global, event: &Event) -> Result<String, AllocError>
     ensures { IfOk result (λ text. string_bytes text ≡ event_line event.now) }
 {
+    let comment = comment(alloc, event)?;
     let text = event_text(alloc, event)?;
-    format!(in alloc; "  {text},\n")
+    format!(in alloc; "{comment}  {text},\n")
 }
 
 /// Adds the ids behind the first one.
@@ -87,7 +101,7 @@ fn head_text(alloc: Global, members: Members, modems: &[u32]) -> Result<String, 
     format!(in alloc; "members = {count}\nmodems = [{ids}]\nevent = [\n")
 }
 
-/// The text of a script, an event a line.
+/// The text of a script, an event a line. Above an offer is the command that its value spells, as a comment.
 pub fn script_text(alloc: Global, script: &Script) -> Result<String, AllocError>
     ensures { IfOk result (λ text. string_bytes text ≡ script_text script.now.members script.now.modems.items script.now.events.items) }
 {

@@ -1,5 +1,6 @@
 -- The arrow of an output that is there, in the row of the event that released it.
-use Rattle.std.proofs.Common.{◌≡◌, ◌<◌, ℕ, nat_lt, true, if◌then◌else◌, List, ◌++◌, Result, OnOk, Some, refl, sym, ap, subst, ◌∙◌, length, get_or, slice_get, lt-ltb}
+use Rattle.std.proofs.Common.{◌≡◌, ◌<◌, ℕ, nat_lt, true, if◌then◌else◌, List, ◌++◌, Result, OnOk, Some, refl, sym, ap}
+use Rattle.std.proofs.Common.{subst, ◌∙◌, length, get_or, slice_get, lt-ltb}
 use Rattle.std.proofs.lemmas.Option.{slice_get_read, slice_get-get_or}
 use Rattle.seats.specs.declared.answer.ReleasedOutput.{ReleasedOutput}
 use Rattle.xml_text.specs.Xml.{Xml, render}

@@ -1,11 +1,12 @@
 -- Arrows from the row of a sending to that of a delivery, and stubs of letters that are never delivered.
-use Rattle.std.specs.Prelude.{◌≡◌, ℕ, ◌+◌, ◌-◌, ◌*◌, ◌<◌, ◌==◌, nat_lt, Bool, true, false, if◌then◌else◌, List, [], ◌∷◌, ◌++◌, Option, Some, None, codes, decimal, get_or, length}
+use Rattle.std.specs.Prelude.{◌≡◌, ℕ, ◌+◌, ◌-◌, ◌*◌, ◌<◌, ◌==◌, nat_lt, Bool, true, false, if◌then◌else◌, List, [], ◌∷◌}
+use Rattle.std.specs.Prelude.{◌++◌, Option, Some, None, codes, decimal, get_or, length}
 use Rattle.ballots.specs.declared.letters.Letter.{Letter}
 use Rattle.world_events.specs.declared.event.Event.{Event}
 use Rattle.world_events.specs.declared.event.Event.TheVariants.{Deliver, DeliverThenCrash, Hear}
 use Rattle.seats.specs.declared.answer.Answer.{Answer}
 use Rattle.seats.specs.declared.answer.ReleasedOutput.{ReleasedOutput}
-use Rattle.printed_answers.specs.Letters.{letter_text}
+use Rattle.command_words.specs.Letters.{named_letter_text}
 use Rattle.watched_runs.specs.Rows.{Row}
 use Rattle.xml_text.specs.Xml.{Xml, shape, titled}
 use Rattle.xml_text.specs.Xml.Tag.{Path}
@@ -61,9 +62,9 @@ abbrev pub arrow_steps : (x1 y1 x2 y2 : ℕ) → List ℕ
 arrow_steps x1 y1 x2 y2 =
     if x1 == x2 then bow x1 y1 y2 else (if nat_lt x1 x2 then straight (x1 + 6) y1 (x2 - 7) y2 else straight (x1 - 6) y1 (x2 + 7) y2)
 
--- what a letter's arrow or stub tells
+-- what a letter's arrow or stub tells: the letter, with the commands that its values spell
 abbrev pub letter_title : ℕ → Letter → List ℕ
-letter_title l letter = codes "letter " ++ (decimal l ++ (codes " " ++ letter_text letter))
+letter_title l letter = codes "letter " ++ (decimal l ++ (codes " " ++ named_letter_text letter))
 
 abbrev pub arrow_class : Bool → List ℕ → List ℕ
 arrow_class true kind = codes "a s-" ++ (kind ++ (codes " h-" ++ (kind ++ codes " again")))

@@ -1,5 +1,6 @@
 -- The parts of a run's picture: of each event, and of each letter.
-use Rattle.std.specs.Prelude.{ℕ, ◌+◌, ◌-◌, Bool, true, false, nat_lt, if◌then◌else◌, List, ◌++◌, Option, Some, None, codes, decimal, length, slice_get}
+use Rattle.std.specs.Prelude.{ℕ, ◌+◌, ◌-◌, Bool, true, false, nat_lt, if◌then◌else◌, List, ◌++◌, Option, Some, None}
+use Rattle.std.specs.Prelude.{codes, decimal, length, slice_get}
 use Rattle.ballots.specs.declared.letters.Letter.{Letter}
 use Rattle.world_events.specs.declared.event.Event.{Event}
 use Rattle.seats.specs.declared.answer.Answer.{Answer}
@@ -11,11 +12,13 @@ use Rattle.xml_text.specs.Xml.Tag.{Line, Words as WordsAt}
 use Rattle.xml_text.specs.Xml.Xml.{Nothing}
 use Rattle.run_picture.specs.declared.scene.Scene.{Scene}
 use Rattle.run_picture.specs.declared.scene.Part.{Part}
-use Rattle.run_picture.specs.declared.scene.Part.TheVariants.{Rule, Number, Happening, Answered, Mark, Arrow, Hearing, Label, Told}
+use Rattle.run_picture.specs.declared.scene.Part.TheVariants.{Rule, Number, Happening, Answered, Mark, Arrow, Hearing}
+use Rattle.run_picture.specs.declared.scene.Part.TheVariants.{Label, Told}
 use Rattle.run_picture.specs.Lanes.{lane_of, lane_x, lanes_end, mark_x}
 use Rattle.run_picture.specs.Marks.{has_failed, kind_name, mark_shape, mark_title}
 use Rattle.run_picture.specs.Arrows.{delivered, heard, letter_arrow, letter_stub, output_arrow}
 use Rattle.run_picture.specs.Roles.{comes_right, sight_told}
+use Rattle.run_picture.specs.Rows.{first_row}
 use Rattle.run_picture.specs.Words.{event_words, note_words}
 
 abbrev pub lanes : Scene → ℕ
@@ -93,17 +96,25 @@ part_of s Hearing row y = hearing s (event_lane s row.event) (heard row.event ro
 part_of s Label row y = label s (delivered row.event row.answer) y
 part_of s Told row y = sight_told (lanes s) s.members (comes_right s.letters.now (delivered row.event row.answer)) y row.sight
 
+-- unless the row is at the upper edge
+abbrev pub part_below : Scene → Part → Row → ℕ → Xml
+part_below s part row y = if nat_lt y first_row then Nothing else part_of s part row y
+
 abbrev pub part_for : Scene → Part → Option Row → Option ℕ → Xml
-part_for s part (Some row) (Some y) = part_of s part row y
+part_for s part (Some row) (Some y) = part_below s part row y
 part_for s part row y = Nothing
 
--- a part of event i, of all
+-- a part of event i, of all, where that is drawn
 abbrev pub part_at : Scene → Part → ℕ → Xml
 part_at s part i = part_for s part (slice_get s.run.now.rows i) (slice_get s.rows.now i)
 
--- the stub of letter l, unless it is delivered
+-- the stub of letter l, unless its sending is at the upper edge
+abbrev pub stub_below : (lanes l : ℕ) → Letter → ℕ → Xml
+stub_below lanes l letter y = if nat_lt y first_row then Nothing else letter_stub lanes l letter y
+
+-- where its sending is drawn, unless it is delivered
 abbrev pub stub_from : Scene → ℕ → Option Letter → Option ℕ → Xml
-stub_from s l (Some letter) (Some sent) = letter_stub (lanes s) l letter sent
+stub_from s l (Some letter) (Some sent) = stub_below (lanes s) l letter sent
 stub_from s l letter sent = Nothing
 
 abbrev pub stub_unless : Bool → Scene → ℕ → Xml

@@ -1,14 +1,16 @@
 -- The picture of a run.
-use Rattle.std.specs.Prelude.{◌≡◌, ℕ, nat_lt, ◌-◌, Bool, true, false, List, ◌++◌, Option, codes, decimal, length, slice_get}
+use Rattle.std.specs.Prelude.{◌≡◌, ℕ, nat_lt, ◌-◌, Bool, true, false, List, ◌++◌, Option, codes, decimal, length}
+use Rattle.std.specs.Prelude.{slice_get}
 use Rattle.xml_text.specs.Xml.{Drawn, Xml, drawing, join, render, said, shape}
 use Rattle.xml_text.specs.Xml.Tag.{Line, Words}
 use Rattle.xml_text.specs.Each.{each}
 use Rattle.run_picture.specs.declared.scene.Scene.{Scene}
 use Rattle.run_picture.specs.declared.scene.Part.{Part}
-use Rattle.run_picture.specs.declared.scene.Part.TheVariants.{Rule, Number, Happening, Answered, Mark, Arrow, Hearing, Label, Told}
+use Rattle.run_picture.specs.declared.scene.Part.TheVariants.{Rule, Number, Happening, Answered, Mark, Arrow, Hearing}
+use Rattle.run_picture.specs.declared.scene.Part.TheVariants.{Label, Told}
 use Rattle.run_picture.specs.Arrows.{AreFirsts}
 use Rattle.run_picture.specs.Lanes.{lane_x}
-use Rattle.run_picture.specs.Rows.{first_row, givers_from, released_count, rows_from, sent_count}
+use Rattle.run_picture.specs.Rows.{first_row, givers_within, released_count, rows_within, sent_count}
 use Rattle.run_picture.specs.Parts.{lanes, part_at, stub_at}
 use Rattle.run_picture.specs.Roles.{bands_from, chosen_from}
 use Rattle.watched_runs.specs.Choices.{choices}
@@ -57,16 +59,17 @@ abbrev pub layers : Scene → (bottom : ℕ) → (legend : Xml) → Drawn
 layers s bottom legend = record { rules = rules_of s; bands = bands_of s bottom; arrows = arrows_of s; marks = of_events s Mark; labels = labels_of s legend }
 
 -- a scene of so many nodes, with modems of these ids, and of a run, with the row of each event and of what gave each
--- letter and each output, and the first event that delivers each letter
-pub record IsSceneOf (s : Scene) (members : ℕ) (ids : List ℕ) (run : Seen) : Type 0 where
+-- letter and each output, as far as these are drawn, and the first event that delivers each letter
+pub record IsSceneOf (s : Scene) (members : ℕ) (ids : List ℕ) (span : ℕ × ℕ) (run : Seen) : Type 0 where
   pub members_told : s.members ≡ members
   pub modems_told : s.modems ≡ length ids
+  pub span_told : s.span ≡ span
   pub run_told : s.run.now ≡ run
   pub letters_told : s.letters.now ≡ run.letters
   pub outputs_told : s.outputs.now ≡ run.outputs
-  pub rows_told : s.rows.now ≡ rows_from first_row run.rows
-  pub senders_told : s.senders.now ≡ givers_from sent_count first_row run.rows
-  pub releasers_told : s.releasers.now ≡ givers_from released_count first_row run.rows
+  pub rows_told : s.rows.now ≡ rows_within span run.rows
+  pub senders_told : s.senders.now ≡ givers_within sent_count span run.rows
+  pub releasers_told : s.releasers.now ≡ givers_within released_count span run.rows
   pub firsts_told : AreFirsts s.firsts.now (length run.letters) run.rows
   pub choices_told : s.choices.now ≡ choices members run.letters
 
@@ -81,6 +84,6 @@ pub record Draws (s : Scene) (text : List ℕ) : Type 0 where
   pub legend : Xml
   pub rendered : text ≡ render (drawing width height title style definitions (layers s bottom legend))
 
--- a text is a picture of a run
-abbrev pub IsPictureOf : (members : ℕ) → (ids : List ℕ) → Seen → List ℕ → Type 0
-IsPictureOf members ids run text = (s : Scene) × IsSceneOf s members ids run × Draws s text
+-- a text is a picture of the events of a run from a number on, and before another one
+abbrev pub IsPictureOf : (members : ℕ) → (ids : List ℕ) → ℕ × ℕ → Seen → List ℕ → Type 0
+IsPictureOf members ids span run text = (s : Scene) × IsSceneOf s members ids span run × Draws s text

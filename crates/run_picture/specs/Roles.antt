@@ -1,15 +1,17 @@
 -- Who prepares and leads, as bands on lanes; what is told of it beside marks; and lines where places are chosen.
-use Rattle.std.specs.Prelude.{ℕ, ◌+◌, ◌-◌, ◌==◌, nat_lt, Bool, true, false, not, if◌then◌else◌, List, [], ◌∷◌, ◌++◌, Option, Some, None, codes, decimal, slice_get}
+use Rattle.std.specs.Prelude.{ℕ, ◌+◌, ◌-◌, ◌==◌, nat_lt, Bool, true, false, not, if◌then◌else◌, List, [], ◌∷◌, ◌++◌}
+use Rattle.std.specs.Prelude.{Option, Some, None, codes, decimal, slice_get}
 use Rattle.ballots.specs.declared.letters.Letter.{Letter}
 use Rattle.watched_runs.specs.Rows.{Row}
 use Rattle.watched_runs.specs.declared.post.Post.{Post}
-use Rattle.watched_runs.specs.declared.post.Post.TheVariants.{Idle, Prepares, Leads}
+use Rattle.watched_runs.specs.declared.post.Post.TheVariants.{Down, Idle, Prepares, Leads}
 use Rattle.watched_runs.specs.declared.sight.Sight.{Sight}
 use Rattle.watched_runs.specs.Texts.{post_text}
 use Rattle.xml_text.specs.Xml.{Xml, join, said, shape, titled}
 use Rattle.xml_text.specs.Xml.Tag.{Line, Path, Words}
 use Rattle.xml_text.specs.Xml.Xml.{Nothing}
 use Rattle.run_picture.specs.Lanes.{lane_x, lanes_end}
+use Rattle.run_picture.specs.Rows.{first_row}
 
 -- the new post of node k, where this is seen of it
 abbrev pub post_if : Bool → Option Post → Option Post
@@ -33,6 +35,7 @@ abbrev pub band_title : ℕ → Post → List ℕ
 band_title k post = codes "node " ++ (decimal k ++ (codes " " ++ post_text post))
 
 abbrev pub band_class : Post → Option (List ℕ)
+band_class Down = Some (codes "down")
 band_class Idle = None
 band_class (Prepares ballot) = Some (codes "prep")
 band_class (Leads ballot) = Some (codes "lead")
@@ -44,10 +47,13 @@ band_of_class lanes k post y1 y2 (Some class) = titled (band_title k post) (shap
 abbrev pub band : (lanes k : ℕ) → Post → (y1 y2 : ℕ) → Xml
 band lanes k post y1 y2 = band_of_class lanes k post y1 y2 (band_class post)
 
--- it ends where the node has another post, and there that post's band begins
+-- it ends where the node has another post, and there that post's band begins; at the upper edge it only begins
+abbrev pub band_to : (lanes k : ℕ) → Post → (y1 y2 : ℕ) → Xml
+band_to lanes k post y1 y2 = if nat_lt y2 first_row then Nothing else band lanes k post y1 y2
+
 abbrev pub band_if : (lanes k : ℕ) → Post → (y1 y2 : ℕ) → Option Post → Xml
 band_if lanes k post y1 y2 None = Nothing
-band_if lanes k post y1 y2 (Some next) = band lanes k post y1 y2
+band_if lanes k post y1 y2 (Some next) = band_to lanes k post y1 y2
 
 abbrev pub post_after : Post → Option Post → Post
 post_after post None = post
@@ -93,14 +99,14 @@ abbrev pub comes_right : List Letter → Option ℕ → Bool
 comes_right letters None = false
 comes_right letters (Some l) = from_right (slice_get letters l)
 
--- the line across all lanes where a letter that is sent in the row y shows that a place is chosen
+-- the line across all lanes where a letter that is sent in the row y shows that a place is chosen, if that is drawn
 abbrev pub chosen_line : (lanes y p : ℕ) → Xml
 chosen_line lanes y p =
     join (shape (Line 212 y (lanes_end lanes) y (codes "chosen"))) (said (Words (lanes_end lanes + 70) (y + 4) (codes "s b")) (codes "p" ++ (decimal p ++ codes " chosen")))
 
 abbrev pub chosen_if : (lanes : ℕ) → Option ℕ → ℕ → Xml
 chosen_if lanes None y = Nothing
-chosen_if lanes (Some p) y = chosen_line lanes y p
+chosen_if lanes (Some p) y = if nat_lt y first_row then Nothing else chosen_line lanes y p
 
 abbrev pub chosen_from : (lanes : ℕ) → Option (Option ℕ) → Option ℕ → Xml
 chosen_from lanes (Some place) (Some y) = chosen_if lanes place y

@@ -1,14 +1,20 @@
 -- Events and letters in few words.
-use Rattle.std.specs.Prelude.{ℕ, List, ◌++◌, codes, decimal, length}
+use Rattle.std.specs.Prelude.{ℕ, List, ◌++◌, codes, decimal}
 use Rattle.ballots.specs.declared.letters.Note.{Note}
 use Rattle.ballots.specs.declared.letters.Note.TheVariants.{Prepare, Promise, Accept, Voted, Higher, Known}
 use Rattle.world_events.specs.declared.event.Event.{Event}
-use Rattle.world_events.specs.declared.event.Event.TheVariants.{Lead, Offer, Tell, Deliver, DeliverThenCrash, Crash, Restart, Release, Hear, Want, Tick}
+use Rattle.world_events.specs.declared.event.Event.TheVariants.{Lead, Offer, Tell, Deliver, DeliverThenCrash, Crash}
+use Rattle.world_events.specs.declared.event.Event.TheVariants.{Restart, Release, Hear, Want, Tick}
+use Rattle.command_words.specs.Commands.{value_words}
+
+-- what is offered, by the command that the value spells
+abbrev pub offer_words : List ℕ → List ℕ
+offer_words value = codes "offer " ++ value_words value
 
 -- what happens
 abbrev pub event_words : Event → List ℕ
 event_words (Lead k) = codes "lead"
-event_words (Offer k value) = codes "offer " ++ (decimal (length value) ++ codes " bytes")
+event_words (Offer k value) = offer_words value
 event_words (Tell k to place) = codes "tell node " ++ (decimal to ++ (codes " from p" ++ decimal place))
 event_words (Deliver i) = codes "deliver " ++ decimal i
 event_words (DeliverThenCrash i) = codes "deliver " ++ (decimal i ++ codes ", crash")

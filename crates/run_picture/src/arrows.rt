@@ -9,7 +9,7 @@ ghost use Rattle.run_picture.specs.Arrows.{output_title, output_arrow, stub_step
 use crate::lanes::lane_x;
 use crate::marks::{has_failed, kind_name};
 use ballots::Letter;
-use printed_answers::letter_text;
+use command_words::named_letter_text;
 use seats::{Answer, ReleasedOutput};
 use std::alloc::{AllocError, Global};
 use watched_runs::Watched;
@@ -132,7 +132,7 @@ fn arrow_steps(alloc: Global, from: (u64, u64), to: (u64, u64)) -> Result<String
 fn letter_title(alloc: Global, l: usize, letter: &Letter) -> Result<String, AllocError>
     ensures { IfOk result (λ text. string_bytes text ≡ letter_title l letter.now) }
 {
-    let text = letter_text(alloc, letter)?;
+    let text = named_letter_text(alloc, letter)?;
     format!(in alloc; "letter {l} {text}")
 }
 

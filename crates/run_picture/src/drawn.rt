@@ -11,8 +11,9 @@ ghost use Rattle.run_picture.specs.Pictures.{lane_line, lane_name};
 ghost use Rattle.run_picture.specs.Pictures.{layers, name_if, of_events, Draws, IsPictureOf};
 
 use crate::arrows::firsts_of;
-use crate::heads::{NOTES, STYLE, heads, legend};
+use crate::heads::{Counts, STYLE, heads};
 use crate::lanes::{lane_x, lanes_end};
+use crate::legend::legend;
 use crate::parts::{add_part, add_stubs};
 use crate::roles::{add_bands, add_chosen};
 use crate::rows::{releasers_of, rows_of, senders_of};
@@ -20,7 +21,7 @@ use crate::scene::{Part, Scene, lanes};
 use ballots::Members;
 use std::alloc::{AllocError, Global};
 use watched_runs::{Watched, choices};
-use xml_text::{Layers, add_line, add_words, drawing};
+use xml_text::{Layers, Sheet, add_line, add_words, drawing};
 
 /// The line of a lane, down to the bottom.
 fn add_lane_line(
@@ -198,14 +199,14 @@ fn layers_of(alloc: Global, scene: &Scene<'_>, bottom: u64) -> Result<Layers, Al
     let bands = bands_of(alloc, scene, bottom)?;
     let arrows = arrows_of(alloc, scene)?;
     let marks = of_events(alloc, scene, Part::Mark)?;
-    let counts = (
-        scene.members,
-        scene.modems,
-        scene.run.len(),
-        scene.letters.len(),
-    );
-    let notes = (NOTES[0], NOTES[1], NOTES[2], NOTES[3]);
-    let mut labels = legend(alloc, counts, notes)?;
+    let counts = Counts {
+        members: scene.members,
+        modems: scene.modems,
+        span: scene.span,
+        events: scene.run.len(),
+        letters: scene.letters.len(),
+    };
+    let mut labels = legend(alloc, counts)?;
     add_labels(alloc, &mut labels, scene)?;
     Ok(Layers {
         rules,
@@ -240,7 +241,13 @@ fn drawn_so(
 {
     let all = layers_of(alloc, scene, bottom)?;
     let heads = heads(alloc)?;
-    let text = drawing(alloc, size, words.0, words.1, heads.as_str(), &all)?;
+    let sheet = Sheet {
+        size,
+        title: words.0,
+        style: words.1,
+        definitions: heads.as_str(),
+    };
+    let text = drawing(alloc, &sheet, &all)?;
     Ok(text)
 }
 
@@ -258,26 +265,30 @@ fn drawn_scene(alloc: Global, scene: &Scene<'_>) -> Result<String, AllocError>
 }
 
 /// The picture of a run of so many nodes and of modems with these ids, as an SVG document: what happened, how it was
-/// answered, every letter that was sent and every output that was released.
+/// answered, every letter that was sent and every output that was released. Events are drawn from a number on, and
+/// before another one: `(0, run.len())` draws all. What was before them comes from the upper edge, and what comes later
+/// isn't drawn.
 pub fn picture(
     alloc: Global,
     members: Members,
     ids: &[u32],
     run: &Watched<'_>,
+    span: (usize, usize),
 ) -> Result<String, AllocError>
     requires modems { length ids.now < 2 ^ 32 }
     requires events { length run.now.rows < 2 ^ 27 }
-    ensures { IfOk result (λ text. IsPictureOf (member_count members) ids.now run.now (string_bytes text)) }
+    ensures { IfOk result (λ text. IsPictureOf (member_count members) ids.now span run.now (string_bytes text)) }
 {
-    let rows = rows_of(alloc, run)?;
-    let senders = senders_of(alloc, run)?;
-    let releasers = releasers_of(alloc, run)?;
+    let rows = rows_of(alloc, run, span)?;
+    let senders = senders_of(alloc, run, span)?;
+    let releasers = releasers_of(alloc, run, span)?;
     let letters = run.letters();
     let firsts = firsts_of(alloc, letters.len(), run)?;
     let choices = choices(alloc, members, letters)?;
     let scene = Scene {
         members: u64::from(members.count()),
         modems: ids.len() as u64,
+        span,
         run,
         letters,
         outputs: run.outputs(),

@@ -2,18 +2,10 @@
 
 ghost use Rattle.std.specs.Prelude.{◌≡◌, ◌++◌, IfOk, OnOk, string_bytes};
 ghost use Rattle.xml_text.specs.Xml.{render};
-ghost use Rattle.run_picture.specs.Heads.{IsRendered, counts_words, kind_key};
+ghost use Rattle.run_picture.specs.Heads.{IsRendered, counted, counts_words, events_words, kind_key, run_words};
 
 use std::alloc::{AllocError, Global};
 use xml_text::{add_arrow_head, add_words};
-
-/// What marks, arrows and stubs mean, a line each.
-pub(crate) const NOTES: [&str; 4] = [
-    "triangle up: asked to lead; square: offered; dot: delivered or heard; diamond: releases; cross: crashes; circle: restarts",
-    "triangle down: wants; triangle right: tells or transmits; speck: idle; red ring: the event failed, and nothing was done",
-    "dashed: delivered again; dotted: an output that is heard; short with a cross: a letter that is never delivered",
-    "blue band: prepares a ballot; gold: leads; line: chosen",
-];
 
 /// The rules of both light and dark.
 pub(crate) const STYLE: &str = "text{font:11px ui-sans-serif,system-ui,'DejaVu Sans',sans-serif}\
@@ -31,7 +23,7 @@ pub(crate) const STYLE: &str = "text{font:11px ui-sans-serif,system-ui,'DejaVu S
 .f-accept{fill:#c75000}.s-accept{stroke:#c75000}.f-voted{fill:#8f2f68}.s-voted{stroke:#8f2f68}\
 .f-higher{fill:#7a6200}.s-higher{stroke:#7a6200}.f-known{fill:#4d5d8a}.s-known{stroke:#4d5d8a}\
 .f-output{fill:#7f4f24}.s-output{stroke:#7f4f24}.f-ask{fill:#1f2328}\
-.lead{fill:#ffe08a}.prep{fill:#d6ebfa}.chosen{stroke:#e3b100;stroke-width:2}\
+.lead{fill:#ffe08a}.prep{fill:#d6ebfa}.down{fill:#d8dee4}.chosen{stroke:#e3b100;stroke-width:2}\
 @media(prefers-color-scheme:dark){\
 .bg{fill:#0d1117}text{fill:#e6edf3}.mute{fill:#8d96a0}.rule{stroke:#21262d}.lane{stroke:#6e7681}.halo{stroke:#0d1117}\
 .bad{fill:#ff6b6b}.sbad{stroke:#ff6b6b}.ring{fill:#0d1117;stroke:#ff6b6b}.start{fill:#0d1117;stroke:#2ccf9f}\
@@ -39,7 +31,7 @@ pub(crate) const STYLE: &str = "text{font:11px ui-sans-serif,system-ui,'DejaVu S
 .f-accept{fill:#ff9145}.s-accept{stroke:#ff9145}.f-voted{fill:#e99ac8}.s-voted{stroke:#e99ac8}\
 .f-higher{fill:#e8d94a}.s-higher{stroke:#e8d94a}.f-known{fill:#a9b8e8}.s-known{stroke:#a9b8e8}\
 .f-output{fill:#d8a26a}.s-output{stroke:#d8a26a}.f-ask{fill:#e6edf3}\
-.lead{fill:#5c4a00}.prep{fill:#12304a}.chosen{stroke:#9a7b00}}";
+.lead{fill:#5c4a00}.prep{fill:#12304a}.down{fill:#30363d}.chosen{stroke:#9a7b00}}";
 
 /// The heads of all arrows.
 pub(crate) fn heads(alloc: Global) -> Result<String, AllocError>
@@ -65,7 +57,7 @@ fn add_kind(alloc: Global, out: &mut String, x: u64, kind: &str) -> Result<(), A
 }
 
 /// The kinds of arrows, from the left on.
-fn kinds(alloc: Global) -> Result<String, AllocError>
+pub(crate) fn kinds(alloc: Global) -> Result<String, AllocError>
     ensures { IfOk result (λ text. IsRendered (string_bytes text)) }
 {
     let mut out = String::new(alloc);
@@ -79,35 +71,71 @@ fn kinds(alloc: Global) -> Result<String, AllocError>
     Ok(out)
 }
 
-/// How many nodes, modems, events and letters there are.
-fn add_counts(
-    alloc: Global,
-    out: &mut String,
-    counts: (u64, u64, usize, usize),
-) -> Result<(), AllocError>
-    ensures { OnOk result (string_bytes out.new ≡ string_bytes out.old ++ render (counts_words counts.0 counts.1 counts.2 counts.3)) }
+/// So many of what has a name, which is in the singular for one.
+#[tactic(auto, unfolding(crate::specs::Heads::counted))]
+fn counted(alloc: Global, count: u64, name: &str) -> Result<String, AllocError>
+    ensures { IfOk result (λ text. string_bytes text ≡ counted count name.now) }
 {
-    let (members, modems, events, letters) = counts;
-    let words = format!(in alloc;
-        "A run of {members} nodes and {modems} modems: {events} events from the top down, {letters} letters"
-    )?;
-    add_words(alloc, out, (16, 26), "h", words.as_str())
+    if count == 1 {
+        return format!(in alloc; "{count} {name}");
+    }
+    format!(in alloc; "{count} {name}s")
 }
 
-/// What is above a run of so many nodes and modems: how many events and letters there are, the kinds of arrows, and
-/// four notes.
-pub(crate) fn legend(
+/// How many nodes, modems, events and letters there are, in words.
+#[tactic(auto, unfolding(crate::specs::Heads::run_words))]
+fn run_words(
     alloc: Global,
-    counts: (u64, u64, usize, usize),
-    notes: (&str, &str, &str, &str),
+    members: &str,
+    modems: &str,
+    events: &str,
+    letters: &str,
 ) -> Result<String, AllocError>
-    ensures { IfOk result (λ text. IsRendered (string_bytes text)) }
+    ensures { IfOk result (λ text. string_bytes text ≡ run_words members.now modems.now events.now letters.now) }
 {
-    let mut out = kinds(alloc)?;
-    add_counts(alloc, &mut out, counts)?;
-    add_words(alloc, &mut out, (16, 43), "s mute", notes.0)?;
-    add_words(alloc, &mut out, (16, 57), "s mute", notes.1)?;
-    add_words(alloc, &mut out, (16, 71), "s mute", notes.2)?;
-    add_words(alloc, &mut out, (450, 92), "s mute", notes.3)?;
-    Ok(out)
+    format!(in alloc; "A run of {members} and {modems}: {events} from the top down, {letters}")
+}
+
+/// How many events there are, or which of them are drawn: from a number on, and before another one.
+#[tactic(auto, unfolding(crate::specs::Heads::events_words))]
+fn events_words(alloc: Global, span: (usize, usize), events: usize) -> Result<String, AllocError>
+    ensures { IfOk result (λ text. string_bytes text ≡ events_words span events) }
+{
+    let (from, end) = span;
+    if from == 0 && events <= end {
+        return counted(alloc, events as u64, "event");
+    }
+    let last = end.saturating_sub(1);
+    format!(in alloc; "events {from} to {last} of {events}")
+}
+
+/// How many nodes, modems, events and letters there are, and which events are drawn.
+#[derive(Clone, Copy)]
+pub(crate) struct Counts {
+    pub members: u64,
+    pub modems: u64,
+    pub span: (usize, usize),
+    pub events: usize,
+    pub letters: usize,
+}
+
+/// These in words.
+pub(crate) fn add_counts(alloc: Global, out: &mut String, counts: Counts) -> Result<(), AllocError>
+    ensures { OnOk result (string_bytes out.new
+        ≡ string_bytes out.old ++ render (counts_words counts.members counts.modems counts.span counts.events counts.letters)) }
+{
+    let Counts {
+        members,
+        modems,
+        span,
+        events,
+        letters,
+    } = counts;
+    let members = counted(alloc, members, "node")?;
+    let modems = counted(alloc, modems, "modem")?;
+    let events = events_words(alloc, span, events)?;
+    let letters = counted(alloc, letters as u64, "letter")?;
+    let (members, modems) = (members.as_str(), modems.as_str());
+    let words = run_words(alloc, members, modems, events.as_str(), letters.as_str())?;
+    add_words(alloc, out, (16, 26), "h", words.as_str())
 }

@@ -5,6 +5,7 @@ mod arrows;
 mod drawn;
 mod heads;
 mod lanes;
+mod legend;
 mod marks;
 mod parts;
 mod roles;

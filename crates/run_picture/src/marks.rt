@@ -2,6 +2,7 @@
 
 ghost use Rattle.std.specs.Prelude.{◌≡◌, ◌++◌, ◌<◌, ◌^◌, OnOk, IfOk, string_bytes, slice_get};
 ghost use Rattle.xml_text.specs.Xml.{render, shape, titled};
+ghost use Rattle.xml_text.specs.Xml.Tag.{Circle};
 ghost use Rattle.run_picture.specs.Marks.{has_failed, kind_name, letter_dot, path_at, cross_at, is_idle, tick_shape};
 ghost use Rattle.run_picture.specs.Marks.{done_shape, mark_shape, mark_title};
 
@@ -10,7 +11,7 @@ use printed_answers::answer_text;
 use seats::Answer;
 use std::alloc::{AllocError, Global};
 use world_events::Event;
-use xml_text::{add_titled_circle, add_titled_path};
+use xml_text::{Disc, add_titled_circle, add_titled_path};
 
 /// Whether an answer says that the event failed.
 pub(crate) fn has_failed(answer: Answer) -> bool
@@ -49,6 +50,22 @@ pub(crate) struct Mark<'a> {
     pub answer: Answer,
 }
 
+/// A circle round a point, with this radius and this class.
+fn add_dot(
+    alloc: Global,
+    out: &mut String,
+    title: &str,
+    at: (u64, u64),
+    look: (u64, &str),
+) -> Result<(), AllocError>
+    ensures { OnOk result (string_bytes out.new
+        ≡ string_bytes out.old ++ render (titled title.now (shape (Circle at.0 at.1 look.entry.0 look.entry.1.now)))) }
+{
+    let (radius, class) = look;
+    let disc = Disc { middle: at, radius };
+    add_titled_circle(alloc, out, title, disc, class)
+}
+
 /// A dot in the colour of letter `i`.
 fn add_letter_dot(
     alloc: Global,
@@ -61,10 +78,10 @@ fn add_letter_dot(
 {
     let letters = mark.letters;
     if i >= letters.len() {
-        return add_titled_circle(alloc, out, mark.title, mark.at, 5, "ring");
+        return add_dot(alloc, out, mark.title, mark.at, (5, "ring"));
     }
     let class = format!(in alloc; "f-{}", kind_name(&letters[i].note))?;
-    add_titled_circle(alloc, out, mark.title, mark.at, 4, class.as_str())
+    add_dot(alloc, out, mark.title, mark.at, (4, class.as_str()))
 }
 
 /// A path that begins at a point, with these steps and this class.
@@ -127,7 +144,7 @@ fn add_done_shape(alloc: Global, out: &mut String, mark: &Mark<'_>) -> Result<()
         Event::Deliver(i) => add_letter_dot(alloc, out, mark, *i),
         Event::DeliverThenCrash(_) => add_cross(alloc, out, title, mark.at),
         Event::Crash(_) => add_cross(alloc, out, title, mark.at),
-        Event::Restart(_) => add_titled_circle(alloc, out, title, mark.at, 5, "start"),
+        Event::Restart(_) => add_dot(alloc, out, title, mark.at, (5, "start")),
         Event::Release(_, _) => {
             add_path_at(
                 alloc,
@@ -137,7 +154,7 @@ fn add_done_shape(alloc: Global, out: &mut String, mark: &Mark<'_>) -> Result<()
                 ("l7 7l-7 7l-7 -7z", "f-output"),
             )
         }
-        Event::Hear(_, _, _) => add_titled_circle(alloc, out, title, mark.at, 4, "f-output"),
+        Event::Hear(_, _, _) => add_dot(alloc, out, title, mark.at, (4, "f-output")),
         Event::Want(_, _, _, _) => {
             add_path_at(alloc, out, title, (lefter, up), ("h12l-6 10z", "f-ask"))
         }
@@ -166,7 +183,7 @@ fn add_tick(
     ensures { OnOk result (string_bytes out.new ≡ string_bytes out.old ++ render (titled title.now (shape (tick_shape idle at.0 at.1)))) }
 {
     if idle {
-        return add_titled_circle(alloc, out, title, at, 2, "mute");
+        return add_dot(alloc, out, title, at, (2, "mute"));
     }
     let left = at.0.saturating_sub(5);
     let up = at.1.saturating_sub(6);
@@ -183,7 +200,7 @@ pub(crate) fn add_mark_shape(
         (shape (mark_shape (has_failed mark.now.answer) mark.now.letters.now mark.now.at.0 mark.now.at.1 mark.now.event.now mark.now.answer)))) }
 {
     if has_failed(mark.answer) {
-        return add_titled_circle(alloc, out, mark.title, mark.at, 5, "ring");
+        return add_dot(alloc, out, mark.title, mark.at, (5, "ring"));
     }
     add_done_shape(alloc, out, mark)
 }

@@ -7,8 +7,8 @@ ghost use Rattle.run_picture.specs.Arrows.{delivered, heard};
 ghost use Rattle.run_picture.specs.Roles.{comes_right, sight_told};
 ghost use Rattle.run_picture.specs.Parts.{lanes, event_lane, event_x, rule, number_words, happening, answer_class};
 ghost use Rattle.run_picture.specs.Parts.{answered};
-ghost use Rattle.run_picture.specs.Parts.{mark, arrow, hearing_from, hearing, label_on, label, part_of, part_at};
-ghost use Rattle.run_picture.specs.Parts.{stub_from, stub_past, stub_unless, stub_at};
+ghost use Rattle.run_picture.specs.Parts.{mark, arrow, hearing_from, hearing, label_on, label, part_below, part_of, part_at};
+ghost use Rattle.run_picture.specs.Parts.{stub_below, stub_from, stub_past, stub_unless, stub_at};
 ghost use Rattle.watched_runs.specs.Shown.{shown};
 
 use crate::arrows::{
@@ -17,6 +17,7 @@ use crate::arrows::{
 use crate::lanes::{lane_of, lane_x, lanes_end, mark_x};
 use crate::marks::{Mark, add_mark_shape, has_failed, kind_name, mark_title};
 use crate::roles::{add_node_told, comes_right};
+use crate::rows::FIRST_ROW;
 use crate::scene::{Part, Scene, Spot, lanes};
 use crate::words::{event_words, note_words};
 use ballots::Letter;
@@ -341,7 +342,26 @@ fn add_part_of(
     }
 }
 
-/// A part of event `i`, of all.
+/// A part of an event, unless its row is at the upper edge.
+fn add_part_below(
+    alloc: Global,
+    out: &mut String,
+    scene: &Scene<'_>,
+    part: Part,
+    spot: &Spot<'_>,
+) -> Result<(), AllocError>
+    requires members { scene.now.members < 2 ^ 32 }
+    requires modems { scene.now.modems < 2 ^ 32 }
+    requires row { spot.now.y < 2 ^ 32 }
+    ensures { OnOk result (string_bytes out.new ≡ string_bytes out.old ++ render (part_below scene.now part (shown spot.now.row) spot.now.y)) }
+{
+    if spot.y < u64::from(FIRST_ROW) {
+        return Ok(());
+    }
+    add_part_of(alloc, out, scene, part, spot)
+}
+
+/// A part of event `i`, of all, where that is drawn.
 fn add_part_at(
     alloc: Global,
     out: &mut String,
@@ -363,7 +383,7 @@ fn add_part_at(
         row: scene.run.row(i),
         y: u64::from(scene.rows[i]),
     };
-    add_part_of(alloc, out, scene, part, &spot)
+    add_part_below(alloc, out, scene, part, &spot)
 }
 
 /// A part of each event.
@@ -383,7 +403,24 @@ pub(crate) fn add_part(
     Ok(())
 }
 
-/// The stub of letter `l`.
+/// The stub of a letter of this number, unless its sending is at the upper edge.
+fn add_stub_below(
+    alloc: Global,
+    out: &mut String,
+    lanes: u64,
+    numbered: (usize, &Letter),
+    y: u64,
+) -> Result<(), AllocError>
+    requires { y < 2 ^ 50 }
+    ensures { OnOk result (string_bytes out.new ≡ string_bytes out.old ++ render (stub_below lanes numbered.entry.0 numbered.entry.1.now y)) }
+{
+    if y < u64::from(FIRST_ROW) {
+        return Ok(());
+    }
+    add_letter_stub(alloc, out, lanes, numbered, y)
+}
+
+/// The stub of letter `l`, where its sending is drawn.
 fn add_stub(alloc: Global, out: &mut String, scene: &Scene<'_>, l: usize) -> Result<(), AllocError>
     requires members { scene.now.members < 2 ^ 32 }
     requires modems { scene.now.modems < 2 ^ 32 }
@@ -397,7 +434,7 @@ fn add_stub(alloc: Global, out: &mut String, scene: &Scene<'_>, l: usize) -> Res
         return Ok(());
     }
     let sent = u64::from(scene.senders[l]);
-    add_letter_stub(alloc, out, lanes(scene), (l, &scene.letters[l]), sent)
+    add_stub_below(alloc, out, lanes(scene), (l, &scene.letters[l]), sent)
 }
 
 /// The stub of letter `l`, unless it is delivered.

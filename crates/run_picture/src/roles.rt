@@ -4,7 +4,8 @@ ghost use Rattle.std.specs.Prelude.{◌≡◌, ◌++◌, ◌<◌, ◌^◌, OnOk,
 ghost use Rattle.xml_text.specs.Xml.{render};
 ghost use Rattle.run_picture.specs.Rows.{first_row};
 ghost use Rattle.run_picture.specs.Parts.{lanes};
-ghost use Rattle.run_picture.specs.Roles.{band, band_if, band_of_class, band_steps, band_title, bands_from};
+ghost use Rattle.run_picture.specs.Roles.{band, band_if, band_of_class, band_steps, band_title, band_to};
+ghost use Rattle.run_picture.specs.Roles.{bands_from};
 ghost use Rattle.run_picture.specs.Roles.{chosen_from, chosen_if};
 ghost use Rattle.run_picture.specs.Roles.{chosen_line, comes_right, from_right, learned_told, new_post, node_told};
 ghost use Rattle.run_picture.specs.Roles.{post_after};
@@ -50,6 +51,7 @@ fn post_words(alloc: Global, post: &Post) -> Result<String, AllocError>
     ensures { IfOk result (λ text. string_bytes text ≡ post_text post.now) }
 {
     match post {
+        Post::Down => post_text(alloc, Post::Down),
         Post::Idle => post_text(alloc, Post::Idle),
         Post::Prepares(ballot) => post_text(alloc, Post::Prepares(*ballot)),
         Post::Leads(ballot) => post_text(alloc, Post::Leads(*ballot)),
@@ -104,10 +106,28 @@ fn add_band(alloc: Global, out: &mut String, strip: &Strip, post: &Post) -> Resu
         ≡ string_bytes out.old ++ render (band strip.now.lanes strip.now.k post.now strip.now.rows.0 strip.now.rows.1)) }
 {
     match post {
+        Post::Down => add_band_of(alloc, out, strip, post, "down"),
         Post::Idle => Ok(()),
         Post::Prepares(_) => add_band_of(alloc, out, strip, post, "prep"),
         Post::Leads(_) => add_band_of(alloc, out, strip, post, "lead"),
     }
+}
+
+/// The band of a node up to a row, unless that is at the upper edge.
+fn add_band_to(
+    alloc: Global,
+    out: &mut String,
+    strip: &Strip,
+    post: &Post,
+) -> Result<(), AllocError>
+    requires { strip.now.k < 2 ^ 40 }
+    ensures { OnOk result (string_bytes out.new
+        ≡ string_bytes out.old ++ render (band_to strip.now.lanes strip.now.k post.now strip.now.rows.0 strip.now.rows.1)) }
+{
+    if strip.rows.1 < u64::from(FIRST_ROW) {
+        return Ok(());
+    }
+    add_band(alloc, out, strip, post)
 }
 
 /// The band of a node up to a row, where it has another post from there on.
@@ -123,7 +143,7 @@ fn add_band_if(
         ≡ string_bytes out.old ++ render (band_if strip.now.lanes strip.now.k post.now strip.now.rows.0 strip.now.rows.1 next.now)) }
 {
     match next {
-        Some(_) => add_band(alloc, out, strip, post),
+        Some(_) => add_band_to(alloc, out, strip, post),
         None => Ok(()),
     }
 }
@@ -297,6 +317,9 @@ fn add_chosen_if(
     let Some(place) = place else {
         return Ok(());
     };
+    if y < u64::from(FIRST_ROW) {
+        return Ok(());
+    }
     add_chosen_line(alloc, out, lanes, y, place)
 }
 

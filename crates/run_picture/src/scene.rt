@@ -7,13 +7,14 @@ use ballots::Letter;
 use seats::ReleasedOutput;
 use watched_runs::{Row, Watched};
 
-/// A run as it is drawn: how many nodes and modems there are, what happened, the rows of events, of the events that
-/// sent each letter, and of those that released each output, the number of the first event that delivers each letter,
-/// and the place that each letter shows to be chosen.
+/// A run as it is drawn: how many nodes and modems there are, which events are drawn, what happened, the rows of
+/// events, of the events that sent each letter, and of those that released each output, the number of the first event
+/// that delivers each letter, and the place that each letter shows to be chosen.
 #[derive(Clone, Copy)]
 pub(crate) struct Scene<'a> {
     pub members: u64,
     pub modems: u64,
+    pub span: (usize, usize),
     pub run: &'a Watched<'a>,
     pub letters: &'a [Letter],
     pub outputs: &'a [ReleasedOutput],

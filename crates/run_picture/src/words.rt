@@ -1,11 +1,20 @@
 //! Events and letters in few words.
 
 ghost use Rattle.std.specs.Prelude.{◌≡◌, IfOk, string_bytes};
-ghost use Rattle.run_picture.specs.Words.{event_words, note_words};
+ghost use Rattle.run_picture.specs.Words.{event_words, note_words, offer_words};
 
-use ballots::Note;
+use ballots::{Bytes, Note};
+use command_words::value_words;
 use std::alloc::{AllocError, Global};
 use world_events::Event;
+
+/// What is offered, by the command that the value spells.
+fn offer_words(alloc: Global, value: &Bytes) -> Result<String, AllocError>
+    ensures { IfOk result (λ text. string_bytes text ≡ offer_words value.now) }
+{
+    let words = value_words(alloc, value)?;
+    format!(in alloc; "offer {words}")
+}
 
 /// What happens.
 pub(crate) fn event_words(alloc: Global, event: &Event) -> Result<String, AllocError>
@@ -13,10 +22,7 @@ pub(crate) fn event_words(alloc: Global, event: &Event) -> Result<String, AllocE
 {
     match event {
         Event::Lead(_) => String::from_str(alloc, "lead"),
-        Event::Offer(_, value) => {
-            let length = value.as_slice().len();
-            format!(in alloc; "offer {length} bytes")
-        }
+        Event::Offer(_, value) => offer_words(alloc, value),
         Event::Tell(_, to, place) => {
             let to = to.number();
             format!(in alloc; "tell node {to} from p{place}")

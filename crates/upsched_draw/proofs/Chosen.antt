@@ -1,5 +1,6 @@
 -- What nodes have learned are the commands of chosen values.
-use Rattle.std.proofs.Common.{◌≡◌, ◌≢◌, ℕ, ◌+◌, ◌≤◌, List, [], ◌∷◌, Option, Some, None, refl, sym, ap, subst, ◌∙◌, length, slice_get, suc, zero, arith}
+use Rattle.std.proofs.Common.{◌≡◌, ◌≢◌, ℕ, ◌+◌, ◌≤◌, List, [], ◌∷◌, Option, Some, None, refl, sym, ap, subst, ◌∙◌}
+use Rattle.std.proofs.Common.{length, slice_get, suc, zero, arith}
 use Rattle.std.specs.Option.{option_map}
 use Rattle.std.proofs.lemmas.Option.{same_Some}
 use Rattle.ballots.proofs.Callers.{at_in}
@@ -13,7 +14,8 @@ use Rattle.node.specs.View.{Standing}
 use Rattle.node.specs.View.Standing.{Running, Stopped}
 use Rattle.seats.specs.declared.answer.Answer.{Answer}
 use Rattle.world_events.specs.declared.event.Event.{Event}
-use Rattle.upsched_draw.specs.Learned.{AreLearned, AreLearnedFrom, AreMostLearned, MostAreChosen, MostAreOne, learned_at}
+use Rattle.upsched_draw.specs.Learned.{AreLearned, AreLearnedFrom, AreMostLearned, MostAreChosen, MostAreOne}
+use Rattle.upsched_draw.specs.Learned.{learned_at}
 
 -- the value that a command is of
 of_value : (o : Option (List ℕ)) (c : Command) → option_map command_of o ≡ Some c → (v : List ℕ) × (o ≡ Some v) × (command_of v ≡ c)

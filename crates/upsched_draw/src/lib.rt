@@ -7,6 +7,6 @@ mod learned;
 mod maps;
 mod transmitted;
 
-pub use draw::draw_script;
+pub use draw::{Asked, ScriptDrawing, draw_script};
 pub use laws::most_learned_is_one;
 pub use maps::{draw_maps, tell_maps};

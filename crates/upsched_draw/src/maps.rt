@@ -6,7 +6,7 @@ ghost use Rattle.ballots.specs.Members.{member_count};
 ghost use Rattle.seats.specs.Fresh.{AreFresh};
 ghost use Rattle.network_script.specs.Worlds.{AreHonest};
 ghost use Rattle.upsched_ends.specs.declared.status.Status.TheVariants.{Done, NotUnderstood};
-ghost use Rattle.script_text.specs.Script.{NoScript};
+ghost use Rattle.script_text.specs.StepScript.{NoSteps};
 ghost use Rattle.upsched_draw.specs.Draws.{DrawsLearned, LearnsFrom, LeavesLearned, TellsLearned};
 
 use crate::learned::most_learned;
@@ -15,12 +15,13 @@ use grant_machine::Command;
 use map_picture::Sent;
 use network_script::World;
 use node::Node;
-use script_text::Script;
+use script_text::StepScript;
 use seats::{OutOfMemory, new_modems, plain_nodes};
 use std::alloc::Global;
 use std::io::{Read, Write};
 use upsched_check::{draw_commands, tell_commands};
-use upsched_ends::{Fault, Status, script_of};
+use upsched_ends::{Fault, Status, steps_of};
+use watched_runs::watch_steps;
 
 /// What a run leaves for a picture of its MAPs.
 #[derive(Drop)]
@@ -36,25 +37,25 @@ struct Learned {
 fn learned_after<N: Node>(
     alloc: Global,
     nodes: Vec<N>,
-    script: &Script,
+    script: StepScript,
 ) -> Result<(Learned, World<N>), OutOfMemory>
     requires nodes { AreFresh N.who N.honest N.stands nodes.items }
-    requires members { length nodes.items ≡ member_count script.now.members }
-    ensures { IfOk result (λ left. AreHonest left.1 → LeavesLearned (member_count script.now.members) script.now.modems.items script.now.events.items
+    requires members { length nodes.items ≡ member_count script.members }
+    ensures { IfOk result (λ left. AreHonest left.1 → LeavesLearned (member_count script.members) script.modems.items script.steps.items
         left.0.commands.items left.0.sent.items) }
 {
-    let ids = script.modems.as_slice();
-    let modems = new_modems(alloc, ids)?;
-    let mut world = World::new(alloc, nodes, modems)?;
-    world.run(script.events.as_slice())?;
+    let StepScript { modems, steps, .. } = script;
+    let ids = modems.as_slice();
+    let fresh = new_modems(alloc, ids)?;
+    let (_events, _marks, world) = watch_steps(alloc, nodes, fresh, steps)?;
     let commands = most_learned(alloc, world.seats())?;
     let sent = all_told(alloc, ids, world.transmissions())?;
     Ok((Learned { commands, sent }, world))
 }
 
 /// What a script has nodes with records in memory learn, and modems transmit.
-fn learned_by<'a>(alloc: Global, script: &Script) -> Result<Learned, Fault<'a>>
-    ensures { IfOk result (λ learned. LeavesLearned (member_count script.now.members) script.now.modems.items script.now.events.items
+fn learned_by<'a>(alloc: Global, script: StepScript) -> Result<Learned, Fault<'a>>
+    ensures { IfOk result (λ learned. LeavesLearned (member_count script.members) script.modems.items script.steps.items
         learned.commands.items learned.sent.items) }
 {
     let nodes = plain_nodes(alloc, script.members)?;
@@ -72,8 +73,8 @@ fn learned_in<'a, F: Read>(
 ) -> Result<Learned, Fault<'a>>
     ensures { IfOk result (λ learned. IfSome (F.remaining script.old) (λ text. LearnsFrom text learned.commands.items learned.sent.items)) }
 {
-    let script = script_of(alloc, script, path)?;
-    learned_by(alloc, &script)
+    let script = steps_of(alloc, script, path)?;
+    learned_by(alloc, script)
 }
 
 fn draw_learned<'a, F: Read, O: Write>(
@@ -83,7 +84,7 @@ fn draw_learned<'a, F: Read, O: Write>(
     output: &mut O,
 ) -> Result<(), Fault<'a>>
     ensures printed { OnOk result (DrawsLearned (F.remaining script.old) (O.contents output.old) (O.contents output.new)) }
-    ensures no_script { NoScript (F.remaining script.old) → output.new ≡ output.old }
+    ensures no_script { NoSteps (F.remaining script.old) → output.new ≡ output.old }
 {
     let learned = learned_in(alloc, script, path)?;
     let (commands, sent) = (learned.commands.as_slice(), learned.sent.as_slice());
@@ -97,7 +98,7 @@ fn tell_learned<'a, F: Read, O: Write>(
     output: &mut O,
 ) -> Result<(), Fault<'a>>
     ensures printed { OnOk result (TellsLearned (F.remaining script.old) (O.contents output.old) (O.contents output.new)) }
-    ensures no_script { NoScript (F.remaining script.old) → output.new ≡ output.old }
+    ensures no_script { NoSteps (F.remaining script.old) → output.new ≡ output.old }
 {
     let learned = learned_in(alloc, script, path)?;
     tell_commands(alloc, learned.commands.as_slice(), output)
@@ -116,7 +117,7 @@ pub fn draw_maps<F: Read, O: Write, E: Write>(
 ) -> Status
     ensures printed { result ≡ Done → DrawsLearned (F.remaining script.old) (O.contents output.old) (O.contents output.new) }
     ensures quiet { result ≡ Done → errors.new ≡ errors.old }
-    ensures no_script { NoScript (F.remaining script.old) → output.new ≡ output.old }
+    ensures no_script { NoSteps (F.remaining script.old) → output.new ≡ output.old }
     ensures understood { result ≢ NotUnderstood }
 {
     match draw_learned(alloc, script, path, output) {
@@ -135,7 +136,7 @@ pub fn tell_maps<F: Read, O: Write, E: Write>(
 ) -> Status
     ensures printed { result ≡ Done → TellsLearned (F.remaining script.old) (O.contents output.old) (O.contents output.new) }
     ensures quiet { result ≡ Done → errors.new ≡ errors.old }
-    ensures no_script { NoScript (F.remaining script.old) → output.new ≡ output.old }
+    ensures no_script { NoSteps (F.remaining script.old) → output.new ≡ output.old }
     ensures understood { result ≢ NotUnderstood }
 {
     match tell_learned(alloc, script, path, output) {

@@ -1,5 +1,6 @@
 -- What is printed of a run, one event after another.
-use Rattle.std.proofs.Common.{◌≡◌, Bool, ℕ, ◌+◌, ◌<◌, List, [], ◌∷◌, ◌++◌, length, get_or, take, Option, Some, None, IfSome, Result, Ok, Err, OnOk, ap, subst, ◌∙◌, sym}
+use Rattle.std.proofs.Common.{◌≡◌, Bool, ℕ, ◌+◌, ◌<◌, List, [], ◌∷◌, ◌++◌, length, get_or, take, Option, Some, None}
+use Rattle.std.proofs.Common.{IfSome, Result, Ok, Err, OnOk, ap, subst, ◌∙◌, sym}
 use Rattle.std.proofs.lemmas.List.{flat_map_more, take_more}
 use Rattle.std.proofs.lemmas.Slice.Zip.{all_zipped_more}
 use Rattle.std.specs.Io.KnownBytes.{Appends, Keeps}
@@ -9,13 +10,15 @@ use Rattle.ballots.specs.declared.letters.Letter.{Letter}
 use Rattle.ballots.specs.declared.members.Members.{Members}
 use Rattle.seats.specs.declared.answer.ReleasedOutput.{ReleasedOutput}
 use Rattle.seats.specs.declared.answer.Transmission.{Transmission}
-use Rattle.script_text.specs.Script.{IsScript}
-use Rattle.watched_runs.specs.Rows.{IsRun, Row, Seen}
+use Rattle.script_steps.specs.declared.step.Step.{Step}
+use Rattle.script_text.specs.StepScript.{IsStepScript}
+use Rattle.watched_runs.specs.Rows.{Row, Seen}
+use Rattle.watched_runs.specs.Steps.{IsStepRun}
 use Rattle.world_events.specs.declared.event.Event.{Event}
 use Rattle.json_answers.specs.Events.{TellsRow, counts_data}
 use Rattle.upsched_json.proofs.Callers.{value_kept}
 use Rattle.upsched_json.specs.Lines.{PrintsLine, PrintsValue}
-use Rattle.upsched_json_run.specs.Runs.{IsTextOfRow, PrintsRows, PrintsRun, PrintsEventsAsJson, PrintsScriptAsJson}
+use Rattle.upsched_json_run.specs.Runs.{IsTextOfRow, PrintsRows, PrintsRun, PrintsScriptAsJson, PrintsStepsAsJson}
 
 -- no event yet
 pub none_told : (traced : Bool) (old : Option (List ℕ)) → PrintsRows traced [] old old
@@ -43,19 +46,19 @@ run_printed traced run letters outputs sent old mid out new rows is_letters is_o
     (mid, rows, value_kept (counts_data (length run.letters) (length run.outputs) (length run.transmissions)) mid out new counts kept)
 
 -- a run is printed
-pub run_told : (traced : Bool) (members : ℕ) (given ids : List ℕ) (seen events : List Event) (run told : Seen) (old new : Option (List ℕ)) → given ≡ ids → seen ≡ events → told ≡ run
-    → IsRun members given seen run → PrintsRun traced told old new → PrintsEventsAsJson traced members ids events old new
-run_told traced members given ids seen events run told old new is_ids is_events same is_run printed =
-    (run, rw (is_ids, is_events) at is_run, subst (λ (r : Seen). PrintsRun traced r old new) same printed)
+pub run_told : (traced : Bool) (members : ℕ) (given ids : List ℕ) (steps : List Step) (events : List Event) (run told : Seen) (old new : Option (List ℕ)) → given ≡ ids → told ≡ run
+    → IsStepRun members given steps events run → PrintsRun traced told old new → PrintsStepsAsJson traced members ids steps old new
+run_told traced members given ids steps events run told old new is_ids same is_run printed =
+    (events, run, rw is_ids at is_run, subst (λ (r : Seen). PrintsRun traced r old new) same printed)
 
 -- lines of a run of a script that is read off a text are what the text prints
-script_printed : (traced : Bool) (known old new : Option (List ℕ)) (count : Members) (ids : List ℕ) (events : List Event) → IfSome known (λ text. IsScript text count ids events)
-    → PrintsEventsAsJson traced (member_count count) ids events old new → PrintsScriptAsJson traced known old new
-script_printed traced None old new count ids events read prints = tt
-script_printed traced (Some text) old new count ids events read prints = (count, ids, events, read, prints)
+script_printed : (traced : Bool) (known old new : Option (List ℕ)) (count : Members) (ids : List ℕ) (steps : List Step) → IfSome known (λ text. IsStepScript text count ids steps)
+    → PrintsStepsAsJson traced (member_count count) ids steps old new → PrintsScriptAsJson traced known old new
+script_printed traced None old new count ids steps read prints = tt
+script_printed traced (Some text) old new count ids steps read prints = (count, ids, steps, read, prints)
 
 -- where a run went well, its script was printed
-pub plain_printed : {T E : Type 0} (traced : Bool) (r : Result T E) (known old new : Option (List ℕ)) (count : Members) (ids : List ℕ) (events : List Event) → IfSome known (λ text. IsScript text count ids events)
-    → OnOk r (PrintsEventsAsJson traced (member_count count) ids events old new) → OnOk r (PrintsScriptAsJson traced known old new)
-plain_printed traced (Err e) known old new count ids events read prints = tt
-plain_printed traced (Ok x) known old new count ids events read prints = script_printed traced known old new count ids events read prints
+pub plain_printed : {T E : Type 0} (traced : Bool) (r : Result T E) (known old new : Option (List ℕ)) (count : Members) (ids : List ℕ) (steps : List Step) → IfSome known (λ text. IsStepScript text count ids steps)
+    → OnOk r (PrintsStepsAsJson traced (member_count count) ids steps old new) → OnOk r (PrintsScriptAsJson traced known old new)
+plain_printed traced (Err e) known old new count ids steps read prints = tt
+plain_printed traced (Ok x) known old new count ids steps read prints = script_printed traced known old new count ids steps read prints

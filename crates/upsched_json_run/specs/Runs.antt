@@ -5,8 +5,10 @@ use Rattle.std.specs.List.{AllZip}
 use Rattle.ballots.specs.declared.members.Members.{Members}
 use Rattle.ballots.specs.Members.{member_count}
 use Rattle.world_events.specs.declared.event.Event.{Event}
-use Rattle.script_text.specs.Script.{IsScript}
-use Rattle.watched_runs.specs.Rows.{IsRun, Row, Seen}
+use Rattle.script_steps.specs.declared.step.Step.{Step}
+use Rattle.script_text.specs.StepScript.{IsStepScript}
+use Rattle.watched_runs.specs.Rows.{Row, Seen}
+use Rattle.watched_runs.specs.Steps.{IsStepRun}
 use Rattle.json_outputs.specs.Texts.{IsTextWhere}
 use Rattle.json_answers.specs.Events.{TellsRow, counts_data}
 use Rattle.upsched_json.specs.Lines.{PrintsValue}
@@ -26,13 +28,15 @@ PrintsRun traced run old new =
     (mid : Option (List ℕ)) × PrintsRows traced run.rows old mid
     × PrintsValue (counts_data (length run.letters) (length run.outputs) (length run.transmissions)) mid new
 
--- what is printed tells, traced or not, a run of these events over so many fresh nodes and new modems of these ids
-abbrev pub PrintsEventsAsJson : Bool → ℕ → List ℕ → List Event → Option (List ℕ) → Option (List ℕ) → Type 0
-PrintsEventsAsJson traced members ids events old new = (run : Seen) × IsRun members ids events run × PrintsRun traced run old new
+-- what is printed tells, traced or not, a run of these steps over so many fresh nodes and new modems of these ids, each
+-- the event that it means where it happens
+abbrev pub PrintsStepsAsJson : Bool → ℕ → List ℕ → List Step → Option (List ℕ) → Option (List ℕ) → Type 0
+PrintsStepsAsJson traced members ids steps old new =
+    (events : List Event) × (run : Seen) × IsStepRun members ids steps events run × PrintsRun traced run old new
 
 -- what is printed tells a run of the script, traced or not, where the script's text is known
 abbrev pub PrintsScriptAsJson : Bool → Option (List ℕ) → Option (List ℕ) → Option (List ℕ) → Type 0
 PrintsScriptAsJson traced None old new = Unit {0}
 PrintsScriptAsJson traced (Some text) old new =
-    (count : Members) × (ids : List ℕ) × (events : List Event) × IsScript text count ids events
-    × PrintsEventsAsJson traced (member_count count) ids events old new
+    (count : Members) × (ids : List ℕ) × (steps : List Step) × IsStepScript text count ids steps
+    × PrintsStepsAsJson traced (member_count count) ids steps old new

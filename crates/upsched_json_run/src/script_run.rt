@@ -5,43 +5,44 @@ ghost use Rattle.ballots.specs.Members.{member_count};
 ghost use Rattle.seats.specs.Fresh.{AreFresh};
 ghost use Rattle.network_script.specs.Worlds.{AreHonest};
 ghost use Rattle.upsched_ends.specs.declared.status.Status.TheVariants.{Done, NotUnderstood};
-ghost use Rattle.script_text.specs.Script.{NoScript};
-ghost use Rattle.upsched_json_run.specs.Runs.{PrintsEventsAsJson, PrintsScriptAsJson};
+ghost use Rattle.script_text.specs.StepScript.{NoSteps};
+ghost use Rattle.upsched_json_run.specs.Runs.{PrintsScriptAsJson, PrintsStepsAsJson};
 ghost use Rattle.upsched_ends.specs.Faults.{StopsPrint};
 
 use crate::rows::print_run;
 use network_script::World;
 use node::Node;
-use script_text::Script;
+use script_text::StepScript;
 use seats::{new_modems, plain_nodes};
 use std::alloc::Global;
 use std::io::{Read, Write};
-use upsched_ends::{Fault, RunWords, Status, script_of};
-use watched_runs::watch;
+use upsched_ends::{Fault, RunWords, Status, steps_of};
+use watched_runs::watch_steps;
 
-/// What a script does to these fresh nodes is printed, traced or not. The world is given back as the events left it:
-/// the promise of the printed lines holds where its nodes are honest.
+/// What a script does to these fresh nodes is printed, traced or not. Each step is the event that it means where it
+/// happens. The world is given back as the events left it: the promise of the printed lines holds where its nodes are honest.
 pub fn print_script_as_json<'a, N: Node, O: Write>(
     alloc: Global,
     is_traced: bool,
     nodes: Vec<N>,
-    script: &Script,
+    script: StepScript,
     output: &mut O,
 ) -> Result<World<N>, Fault<'a>>
     requires { AreFresh N.who N.honest N.stands nodes.items }
     ensures printed { IfOk result (λ world. AreHonest world
-        → PrintsEventsAsJson is_traced (length nodes.items) script.now.modems.items script.now.events.items
+        → PrintsStepsAsJson is_traced (length nodes.items) script.modems.items script.steps.items
         (O.contents output.old) (O.contents output.new)) }
     ensures fault { IfErr result StopsPrint }
 {
-    let events = script.events.as_slice();
-    let Ok(modems) = new_modems(alloc, script.modems.as_slice()) else {
+    let StepScript { modems, steps, .. } = script;
+    let Ok(modems) = new_modems(alloc, modems.as_slice()) else {
         return Err(Fault::Memory);
     };
-    let Ok((marks, world)) = watch(alloc, nodes, modems, events) else {
+    let Ok((events, marks, world)) = watch_steps(alloc, nodes, modems, steps) else {
         return Err(Fault::Memory);
     };
-    print_run(alloc, is_traced, &marks.over(events, &world), output)?;
+    let run = marks.over(events.as_slice(), &world);
+    print_run(alloc, is_traced, &run, output)?;
     Ok(world)
 }
 
@@ -49,10 +50,10 @@ pub fn print_script_as_json<'a, N: Node, O: Write>(
 fn print_plain<'a, O: Write>(
     alloc: Global,
     is_traced: bool,
-    script: &Script,
+    script: StepScript,
     output: &mut O,
 ) -> Result<(), Fault<'a>>
-    ensures printed { OnOk result (PrintsEventsAsJson is_traced (member_count script.now.members) script.now.modems.items script.now.events.items
+    ensures printed { OnOk result (PrintsStepsAsJson is_traced (member_count script.members) script.modems.items script.steps.items
         (O.contents output.old) (O.contents output.new)) }
     ensures fault { IfErr result StopsPrint }
 {
@@ -71,10 +72,10 @@ fn print_text<'a, F: Read, O: Write>(
     output: &mut O,
 ) -> Result<(), Fault<'a>>
     ensures printed { OnOk result (PrintsScriptAsJson is_traced (F.remaining script.old) (O.contents output.old) (O.contents output.new)) }
-    ensures no_script { NoScript (F.remaining script.old) → output.new ≡ output.old }
+    ensures no_script { NoSteps (F.remaining script.old) → output.new ≡ output.old }
 {
-    let script = script_of(alloc, script, path)?;
-    print_plain(alloc, is_traced, &script, output)
+    let script = steps_of(alloc, script, path)?;
+    print_plain(alloc, is_traced, script, output)
 }
 
 /// Runs a script over nodes with records in memory, and prints for each event an object with its number,
@@ -89,7 +90,7 @@ pub fn run_as_json<F: Read, O: Write, E: Write>(
 ) -> Status
     ensures printed { result ≡ Done → PrintsScriptAsJson false (F.remaining script.old) (O.contents output.old) (O.contents output.new) }
     ensures quiet { result ≡ Done → errors.new ≡ errors.old }
-    ensures no_script { NoScript (F.remaining script.old) → output.new ≡ output.old }
+    ensures no_script { NoSteps (F.remaining script.old) → output.new ≡ output.old }
     ensures understood { result ≢ NotUnderstood }
 {
     match print_text(alloc, false, script, words.script, output) {
@@ -109,7 +110,7 @@ pub fn trace_as_json<F: Read, O: Write, E: Write>(
 ) -> Status
     ensures printed { result ≡ Done → PrintsScriptAsJson true (F.remaining script.old) (O.contents output.old) (O.contents output.new) }
     ensures quiet { result ≡ Done → errors.new ≡ errors.old }
-    ensures no_script { NoScript (F.remaining script.old) → output.new ≡ output.old }
+    ensures no_script { NoSteps (F.remaining script.old) → output.new ≡ output.old }
     ensures understood { result ≢ NotUnderstood }
 {
     match print_text(alloc, true, script, words.script, output) {

@@ -1,20 +1,36 @@
 -- What `run` prints of a script.
-use Rattle.std.specs.Prelude.{ℕ, Bool, List, Option, Some, None}
+use Rattle.std.specs.Prelude.{ℕ, List, Option, Some, None}
 use Rattle.std.specs.Io.KnownBytes.{Appends}
 use Rattle.ballots.specs.declared.members.Members.{Members}
 use Rattle.ballots.specs.Members.{member_count}
 use Rattle.world_events.specs.declared.event.Event.{Event}
-use Rattle.script_text.specs.Script.{IsScript}
-use Rattle.watched_runs.specs.Rows.{IsRun, Seen}
+use Rattle.printed_scripts.specs.Texts.{script_text}
+use Rattle.script_steps.specs.declared.step.Step.{Step}
+use Rattle.script_text.specs.StepScript.{IsStepScript}
+use Rattle.watched_runs.specs.Rows.{Seen}
+use Rattle.watched_runs.specs.Steps.{IsStepRun}
+use Rattle.upsched_run.specs.declared.trace.Trace.{Trace}
 use Rattle.upsched_run.specs.RunLines.{run_lines}
 
--- what is printed is the lines, traced or not, of a run of these events over so many fresh nodes and new modems of these
--- ids
-abbrev pub PrintsEvents : Bool → ℕ → List ℕ → List Event → Option (List ℕ) → Option (List ℕ) → Type 0
-PrintsEvents trace members ids events old new = (run : Seen) × IsRun members ids events run × Appends old new (run_lines trace run)
+-- what is printed is the lines, traced or not, of a run of these steps over so many fresh nodes and new modems of these
+-- ids, each the event that it means where it happens
+abbrev pub PrintsSteps : Trace → ℕ → List ℕ → List Step → Option (List ℕ) → Option (List ℕ) → Type 0
+PrintsSteps trace members ids steps old new =
+    (events : List Event) × (run : Seen) × IsStepRun members ids steps events run × Appends old new (run_lines trace run)
 
 -- what is printed is the lines of a run of the script, traced or not, where the script's text is known
-abbrev pub PrintsScript : Bool → Option (List ℕ) → Option (List ℕ) → Option (List ℕ) → Type 0
+abbrev pub PrintsScript : Trace → Option (List ℕ) → Option (List ℕ) → Option (List ℕ) → Type 0
 PrintsScript trace None old new = Unit {0}
 PrintsScript trace (Some text) old new =
-    (count : Members) × (ids : List ℕ) × (events : List Event) × IsScript text count ids events × PrintsEvents trace (member_count count) ids events old new
+    (count : Members) × (ids : List ℕ) × (steps : List Step) × IsStepScript text count ids steps × PrintsSteps trace (member_count count) ids steps old new
+
+-- over so many fresh nodes and new modems of these ids the steps may come to these events
+abbrev pub ComeTo : ℕ → List ℕ → List Step → List Event → Type 0
+ComeTo members ids steps events = (run : Seen) × IsStepRun members ids steps events run
+
+-- what is printed is the script of the events that the steps of a script come to, where the script's text is known
+abbrev pub PrintsPlain : Option (List ℕ) → Option (List ℕ) → Option (List ℕ) → Type 0
+PrintsPlain None old new = Unit {0}
+PrintsPlain (Some text) old new =
+    (count : Members) × (ids : List ℕ) × (steps : List Step) × IsStepScript text count ids steps
+    × (events : List Event) × ComeTo (member_count count) ids steps events × Appends old new (script_text count ids events)

@@ -1,5 +1,6 @@
 -- The lines that a run of a script prints.
-use Rattle.std.specs.Prelude.{ℕ, ◌+◌, Bool, true, false, List, [], ◌∷◌, ◌++◌, Option, Some, None, codes, decimal, length}
+use Rattle.std.specs.Prelude.{ℕ, ◌+◌, Bool, true, false, List, [], ◌∷◌, ◌++◌, Option, Some, None, codes, decimal}
+use Rattle.std.specs.Prelude.{length}
 use Rattle.std.specs.List.{flat_map}
 use Rattle.ballots.specs.declared.letters.Letter.{Letter}
 use Rattle.seats.specs.declared.answer.Answer.{Answer}
@@ -7,10 +8,13 @@ use Rattle.seats.specs.declared.answer.ReleasedOutput.{ReleasedOutput}
 use Rattle.printed_outputs.specs.Texts.{output_text}
 use Rattle.printed_answers.specs.Texts.{answer_text}
 use Rattle.printed_answers.specs.Letters.{letter_text}
+use Rattle.command_words.specs.Letters.{named_letter_text}
 use Rattle.watched_runs.specs.declared.post.Post.{Post}
 use Rattle.watched_runs.specs.declared.sight.Sight.{Sight}
 use Rattle.watched_runs.specs.Rows.{Row, Seen}
 use Rattle.watched_runs.specs.Texts.{post_text}
+use Rattle.upsched_run.specs.declared.trace.Trace.{Trace}
+use Rattle.upsched_run.specs.declared.trace.Trace.TheVariants.{Off, Letters, Named}
 
 -- the line of an answer with its event's number
 abbrev pub answer_line : ℕ → Answer → List ℕ
@@ -23,17 +27,22 @@ place_line x = codes "place " ++ (decimal x.numbered.place ++ (codes " " ++ (out
 abbrev pub place_lines : List ReleasedOutput → List ℕ
 place_lines xs = flat_map place_line xs
 
+-- a letter, with the commands that its values spell where they are named
+abbrev pub letter_words : Bool → Letter → List ℕ
+letter_words false l = letter_text l
+letter_words true l = named_letter_text l
+
 -- the line of the letter of this number, behind a word for what became of it, and the lines of letters, numbered from n
 -- on
-abbrev pub letter_line : List ℕ → ℕ → Letter → List ℕ
-letter_line word n l = word ++ (codes " " ++ (decimal n ++ (codes " " ++ (letter_text l ++ 10 ∷ []))))
+abbrev pub letter_line : Bool → List ℕ → ℕ → Letter → List ℕ
+letter_line named word n l = word ++ (codes " " ++ (decimal n ++ (codes " " ++ (letter_words named l ++ 10 ∷ []))))
 
-abbrev pub letter_lines : List ℕ → ℕ → List Letter → List ℕ
-letter_lines word n [] = []
-letter_lines word n (l ∷ ls) = letter_line word n l ++ letter_lines word (n + 1) ls
+abbrev pub letter_lines : Bool → List ℕ → ℕ → List Letter → List ℕ
+letter_lines named word n [] = []
+letter_lines named word n (l ∷ ls) = letter_line named word n l ++ letter_lines named word (n + 1) ls
 
-abbrev pub numbered_lines : List ℕ → ℕ × List Letter → List ℕ
-numbered_lines word numbered = letter_lines word numbered.0 numbered.1
+abbrev pub numbered_lines : Bool → List ℕ → ℕ × List Letter → List ℕ
+numbered_lines named word numbered = letter_lines named word numbered.0 numbered.1
 
 -- the lines of what is seen of a node: its post, where that changed, and the place that it learned
 abbrev pub post_line : ℕ → Option Post → List ℕ
@@ -48,13 +57,17 @@ abbrev pub sight_lines : Option Sight → List ℕ
 sight_lines None = []
 sight_lines (Some sight) = post_line sight.node sight.post ++ learned_line sight.node sight.learned
 
--- the lines of an event: its answer, the letter that came, what is seen of the node, the outputs, and the letters that
--- it sent; the answer and the outputs alone without a trace
-abbrev pub row_lines : Bool → Row → List ℕ
-row_lines false row = answer_line row.number row.answer ++ place_lines row.released
-row_lines true row =
-    answer_line row.number row.answer ++ (numbered_lines (codes "came") row.came ++ sight_lines row.sight) ++ place_lines row.released
-    ++ numbered_lines (codes "letter") row.sent
+-- with a trace, behind an event's answer: the letter that came, what is seen of the node, the outputs, and the letters
+-- that it sent
+abbrev pub traced_lines : Bool → Row → List ℕ
+traced_lines named row =
+    (numbered_lines named (codes "came") row.came ++ sight_lines row.sight) ++ place_lines row.released ++ numbered_lines named (codes "letter") row.sent
+
+-- the lines of an event: its answer, and the outputs alone without a trace
+abbrev pub row_lines : Trace → Row → List ℕ
+row_lines Off row = answer_line row.number row.answer ++ place_lines row.released
+row_lines Letters row = answer_line row.number row.answer ++ traced_lines false row
+row_lines Named row = answer_line row.number row.answer ++ traced_lines true row
 
 -- the last line
 abbrev pub counts_line : ℕ → ℕ → ℕ → List ℕ
@@ -62,5 +75,5 @@ counts_line letters outputs transmissions =
     codes "letters " ++ (decimal letters ++ (codes " outputs " ++ (decimal outputs ++ (codes " transmissions " ++ (decimal transmissions ++ 10 ∷ [])))))
 
 -- all lines of a run, traced or not
-abbrev pub run_lines : Bool → Seen → List ℕ
+abbrev pub run_lines : Trace → Seen → List ℕ
 run_lines trace run = flat_map (row_lines trace) run.rows ++ counts_line (length run.letters) (length run.outputs) (length run.transmissions)

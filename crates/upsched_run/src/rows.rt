@@ -4,10 +4,11 @@ ghost use Rattle.std.specs.Prelude.{◌≡◌, IfErr, OnOk, flat_map};
 ghost use Rattle.std.specs.Io.KnownBytes.{Appends};
 ghost use Rattle.upsched_ends.specs.declared.fault.Fault.TheVariants.{Output};
 ghost use Rattle.upsched_ends.specs.Faults.{StopsPrint};
-ghost use Rattle.upsched_run.specs.RunLines.{answer_line, counts_line, place_line, place_lines, row_lines, run_lines};
+ghost use Rattle.upsched_run.specs.RunLines.{answer_line, counts_line, place_line, place_lines, row_lines};
+ghost use Rattle.upsched_run.specs.RunLines.{run_lines, traced_lines};
 ghost use Rattle.watched_runs.specs.Shown.{shown};
 
-use crate::trace::{print_came_and_seen, print_sent};
+use crate::trace::{Trace, print_came_and_seen, print_sent};
 use printed_answers::answer_text;
 use printed_outputs::output_text;
 use seats::ReleasedOutput;
@@ -60,37 +61,52 @@ fn print_answer<'a, O: Write>(alloc: Global, row: &Row<'_>, output: &mut O) -> R
     }
 }
 
-/// The lines of an event: its answer and the outputs that it released. With a trace the letter that came and what is
-/// seen of the node are between them, and the letters that were sent behind.
-fn print_row<'a, O: Write>(
+/// The outputs that an event released, between the letter that came with what is seen of the node, and the letters that
+/// were sent.
+fn print_traced<'a, O: Write>(
     alloc: Global,
-    is_traced: bool,
+    named: bool,
     row: &Row<'_>,
     output: &mut O,
 ) -> Result<(), Fault<'a>>
-    ensures printed { OnOk result (Appends (O.contents output.old) (O.contents output.new) (row_lines is_traced (shown row.now))) }
+    ensures printed { OnOk result (Appends (O.contents output.old) (O.contents output.new) (traced_lines named (shown row.now))) }
+    ensures fault { IfErr result StopsPrint }
+{
+    print_came_and_seen(alloc, named, row, output)?;
+    print_places(alloc, row.released, output)?;
+    print_sent(alloc, named, row, output)
+}
+
+/// The lines of an event: its answer and the outputs that it released, with its letters and what is seen of the node
+/// where they are traced.
+fn print_row<'a, O: Write>(
+    alloc: Global,
+    trace: Trace,
+    row: &Row<'_>,
+    output: &mut O,
+) -> Result<(), Fault<'a>>
+    ensures printed { OnOk result (Appends (O.contents output.old) (O.contents output.new) (row_lines trace (shown row.now))) }
     ensures fault { IfErr result StopsPrint }
 {
     print_answer(alloc, row, output)?;
-    if is_traced {
-        print_came_and_seen(alloc, row, output)?;
-        print_places(alloc, row.released, output)?;
-        return print_sent(alloc, row, output);
+    match trace {
+        Trace::Off => print_places(alloc, row.released, output),
+        Trace::Letters => print_traced(alloc, false, row, output),
+        Trace::Named => print_traced(alloc, true, row, output),
     }
-    print_places(alloc, row.released, output)
 }
 
 fn print_rows<'a, O: Write>(
     alloc: Global,
-    is_traced: bool,
+    trace: Trace,
     run: &Watched<'_>,
     output: &mut O,
 ) -> Result<(), Fault<'a>>
-    ensures printed { OnOk result (Appends (O.contents output.old) (O.contents output.new) (flat_map (row_lines is_traced) run.now.rows)) }
+    ensures printed { OnOk result (Appends (O.contents output.old) (O.contents output.new) (flat_map (row_lines trace) run.now.rows)) }
     ensures fault { IfErr result StopsPrint }
 {
     for i in 0..run.len() {
-        print_row(alloc, is_traced, &run.row(i), output)?;
+        print_row(alloc, trace, &run.row(i), output)?;
     }
     Ok(())
 }
@@ -122,14 +138,14 @@ fn print_counts<'a, O: Write>(
 /// All that was printed goes out.
 pub(crate) fn print_run<'a, O: Write>(
     alloc: Global,
-    is_traced: bool,
+    trace: Trace,
     run: &Watched<'_>,
     output: &mut O,
 ) -> Result<(), Fault<'a>>
-    ensures printed { OnOk result (Appends (O.contents output.old) (O.contents output.new) (run_lines is_traced run.now)) }
+    ensures printed { OnOk result (Appends (O.contents output.old) (O.contents output.new) (run_lines trace run.now)) }
     ensures fault { IfErr result StopsPrint }
 {
-    print_rows(alloc, is_traced, run, output)?;
+    print_rows(alloc, trace, run, output)?;
     let (letters, outputs) = (run.letters().len(), run.outputs().len());
     print_counts(letters, outputs, run.transmissions().len(), output)
 }

@@ -1,33 +1,34 @@
 //! `upsched run SCRIPT`: what happens to nodes and modems.
 
-ghost use Rattle.std.specs.Prelude.{◌≡◌, ◌≢◌, false, true, IfErr, IfOk, OnOk, length};
+ghost use Rattle.std.specs.Prelude.{◌≡◌, ◌≢◌, IfErr, IfOk, OnOk, length};
 ghost use Rattle.ballots.specs.Members.{member_count};
 ghost use Rattle.seats.specs.Fresh.{AreFresh};
 ghost use Rattle.network_script.specs.Worlds.{AreHonest};
 ghost use Rattle.upsched_ends.specs.declared.status.Status.TheVariants.{Done, NotUnderstood};
 ghost use Rattle.upsched_ends.specs.Faults.{StopsPrint};
-ghost use Rattle.script_text.specs.Script.{NoScript};
-ghost use Rattle.upsched_run.specs.Run.{PrintsEvents, PrintsScript};
+ghost use Rattle.script_text.specs.StepScript.{NoSteps};
+ghost use Rattle.upsched_run.specs.declared.trace.Trace.TheVariants.{Letters, Named, Off};
+ghost use Rattle.upsched_run.specs.Run.{PrintsScript, PrintsSteps};
 
 use crate::rows::print_run;
+use crate::trace::Trace;
 use log::{Log, warn};
 use network_script::World;
 use node::Node;
 use printed_answers::fault_name;
-use script_text::Script;
+use script_text::StepScript;
 use seats::{Answer, new_modems, plain_nodes};
 use std::io::{Read, Write};
-use upsched_ends::{Fault, RunWords, Status, script_of};
-use watched_runs::{Watched, watch};
+use upsched_ends::{Fault, RunWords, Status, steps_of};
+use watched_runs::{Watched, watch_steps};
 
 /// What is told of a run beside its answers and outputs.
 #[derive(Clone, Copy, Debug)]
 pub struct Telling {
     /// Whether each fault of a node and each crash is logged.
     pub verbose: bool,
-    /// Whether the letters that an event delivers and sends, and what is seen of its node, are printed behind its
-    /// answer.
-    pub trace: bool,
+    /// What is printed of an event's letters, and of its node, behind its answer.
+    pub trace: Trace,
 }
 
 /// Logs an event whose answer is a node's fault or a crash.
@@ -54,29 +55,29 @@ fn warn_of_run<R: Log>(rt: &R, run: &Watched<'_>) {
     }
 }
 
-/// What a script does to these fresh nodes is printed, as the lines of a run. The world is given back as the events
-/// left it: the promise of the printed lines holds where its nodes are honest.
+/// What a script does to these fresh nodes is printed, as the lines of a run. Each step is the event that it means where
+/// it happens. The world is given back as the events left it: the promise of the printed lines holds where its nodes are
+/// honest.
 pub fn print_script<'a, R: Log + AllocGlobal, N: Node, O: Write>(
     rt: &R,
     nodes: Vec<N>,
-    script: &Script,
+    script: StepScript,
     telling: Telling,
     output: &mut O,
 ) -> Result<World<N>, Fault<'a>>
     requires { AreFresh N.who N.honest N.stands nodes.items }
     ensures printed { IfOk result (λ world. AreHonest world
-        → PrintsEvents telling.trace (length nodes.items) script.now.modems.items script.now.events.items
-        (O.contents output.old) (O.contents output.new)) }
+        → PrintsSteps telling.trace (length nodes.items) script.modems.items script.steps.items (O.contents output.old) (O.contents output.new)) }
     ensures fault { IfErr result StopsPrint }
 {
-    let events = script.events.as_slice();
-    let Ok(modems) = new_modems(rt.alloc(), script.modems.as_slice()) else {
+    let StepScript { modems, steps, .. } = script;
+    let Ok(modems) = new_modems(rt.alloc(), modems.as_slice()) else {
         return Err(Fault::Memory);
     };
-    let Ok((marks, world)) = watch(rt.alloc(), nodes, modems, events) else {
+    let Ok((events, marks, world)) = watch_steps(rt.alloc(), nodes, modems, steps) else {
         return Err(Fault::Memory);
     };
-    let run = marks.over(events, &world);
+    let run = marks.over(events.as_slice(), &world);
     if telling.verbose {
         warn_of_run(rt, &run);
     }
@@ -87,11 +88,11 @@ pub fn print_script<'a, R: Log + AllocGlobal, N: Node, O: Write>(
 /// What a script does to nodes with records in memory is printed.
 fn print_plain<'a, R: Log + AllocGlobal, O: Write>(
     rt: &R,
-    script: &Script,
+    script: StepScript,
     telling: Telling,
     output: &mut O,
 ) -> Result<(), Fault<'a>>
-    ensures printed { OnOk result (PrintsEvents telling.trace (member_count script.now.members) script.now.modems.items script.now.events.items
+    ensures printed { OnOk result (PrintsSteps telling.trace (member_count script.members) script.modems.items script.steps.items
         (O.contents output.old) (O.contents output.new)) }
     ensures fault { IfErr result StopsPrint }
 {
@@ -106,15 +107,15 @@ fn print_text<'a, R: Log + AllocGlobal, F: Read, O: Write>(
     rt: &R,
     script: &mut F,
     words: &RunWords<'a>,
-    trace: bool,
+    trace: Trace,
     output: &mut O,
 ) -> Result<(), Fault<'a>>
     ensures printed { OnOk result (PrintsScript trace (F.remaining script.old) (O.contents output.old) (O.contents output.new)) }
-    ensures no_script { NoScript (F.remaining script.old) → output.new ≡ output.old }
+    ensures no_script { NoSteps (F.remaining script.old) → output.new ≡ output.old }
 {
-    let script = script_of(rt.alloc(), script, words.script)?;
+    let script = steps_of(rt.alloc(), script, words.script)?;
     let verbose = words.verbose;
-    print_plain(rt, &script, Telling { verbose, trace }, output)
+    print_plain(rt, script, Telling { verbose, trace }, output)
 }
 
 /// Runs a script over nodes with records in memory, and prints for each event its number and its
@@ -128,12 +129,12 @@ pub fn run_script<R: Log + AllocGlobal, F: Read, O: Write, E: Write>(
     output: &mut O,
     errors: &mut E,
 ) -> Status
-    ensures printed { result ≡ Done → PrintsScript false (F.remaining script.old) (O.contents output.old) (O.contents output.new) }
+    ensures printed { result ≡ Done → PrintsScript Off (F.remaining script.old) (O.contents output.old) (O.contents output.new) }
     ensures quiet { result ≡ Done → errors.new ≡ errors.old }
-    ensures no_script { NoScript (F.remaining script.old) → output.new ≡ output.old }
+    ensures no_script { NoSteps (F.remaining script.old) → output.new ≡ output.old }
     ensures understood { result ≢ NotUnderstood }
 {
-    match print_text(rt, script, words, false, output) {
+    match print_text(rt, script, words, Trace::Off, output) {
         Ok(()) => Status::Done,
         Err(fault) => fault.told(errors),
     }
@@ -149,12 +150,31 @@ pub fn trace_script<R: Log + AllocGlobal, F: Read, O: Write, E: Write>(
     output: &mut O,
     errors: &mut E,
 ) -> Status
-    ensures printed { result ≡ Done → PrintsScript true (F.remaining script.old) (O.contents output.old) (O.contents output.new) }
+    ensures printed { result ≡ Done → PrintsScript Letters (F.remaining script.old) (O.contents output.old) (O.contents output.new) }
     ensures quiet { result ≡ Done → errors.new ≡ errors.old }
-    ensures no_script { NoScript (F.remaining script.old) → output.new ≡ output.old }
+    ensures no_script { NoSteps (F.remaining script.old) → output.new ≡ output.old }
     ensures understood { result ≢ NotUnderstood }
 {
-    match print_text(rt, script, words, true, output) {
+    match print_text(rt, script, words, Trace::Letters, output) {
+        Ok(()) => Status::Done,
+        Err(fault) => fault.told(errors),
+    }
+}
+
+/// As `trace_script`, but behind each value of a letter is the command that it spells.
+pub fn name_script<R: Log + AllocGlobal, F: Read, O: Write, E: Write>(
+    rt: &R,
+    script: &mut F,
+    words: &RunWords<'_>,
+    output: &mut O,
+    errors: &mut E,
+) -> Status
+    ensures printed { result ≡ Done → PrintsScript Named (F.remaining script.old) (O.contents output.old) (O.contents output.new) }
+    ensures quiet { result ≡ Done → errors.new ≡ errors.old }
+    ensures no_script { NoSteps (F.remaining script.old) → output.new ≡ output.old }
+    ensures understood { result ≢ NotUnderstood }
+{
+    match print_text(rt, script, words, Trace::Named, output) {
         Ok(()) => Status::Done,
         Err(fault) => fault.told(errors),
     }

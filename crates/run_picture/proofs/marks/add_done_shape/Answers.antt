@@ -36,12 +36,12 @@ returns-in-Want c =
 
 pub returns-in-Restart : goal.returns-in-Restart
 returns-in-Restart c =
-    other_tag c.add_titled_circle.result (string_bytes c.args.out.now) (string_bytes c.add_titled_circle.new.out) c.args.mark.now.title.now
+    other_tag c.add_dot.result (string_bytes c.args.out.now) (string_bytes c.add_dot.new.out) c.args.mark.now.title.now
     (Circle c.args.mark.now.at.0 c.args.mark.now.at.1 5 (codes "start")) (done_shape c.args.mark.now.letters.now c.args.mark.now.at.0 c.args.mark.now.at.1 c.args.mark.now.event.now c.args.mark.now.answer)
-    (rw c.in-Restart.is (refl)) c.add_titled_circle.ensures
+    (rw c.in-Restart.is (refl)) c.add_dot.ensures
 
 pub returns-in-Hear : goal.returns-in-Hear
 returns-in-Hear c =
-    other_tag c.add_titled_circle-in-Hear.result (string_bytes c.args.out.now) (string_bytes c.add_titled_circle-in-Hear.new.out) c.args.mark.now.title.now
+    other_tag c.add_dot-in-Hear.result (string_bytes c.args.out.now) (string_bytes c.add_dot-in-Hear.new.out) c.args.mark.now.title.now
     (Circle c.args.mark.now.at.0 c.args.mark.now.at.1 4 (codes "f-output")) (done_shape c.args.mark.now.letters.now c.args.mark.now.at.0 c.args.mark.now.at.1 c.args.mark.now.event.now c.args.mark.now.answer)
-    (rw c.in-Hear.is (refl)) c.add_titled_circle-in-Hear.ensures
+    (rw c.in-Hear.is (refl)) c.add_dot-in-Hear.ensures

@@ -6,8 +6,8 @@ use Rattle.run_picture.proofs.marks.add_tick.Goals as goal
 
 pub returns-then-idle : goal.returns-then-idle
 returns-then-idle c =
-    other_tag c.add_titled_circle.result (string_bytes c.args.out.now) (string_bytes c.add_titled_circle.new.out) c.args.title.now
-    (Circle c.args.at.0 c.args.at.1 2 (codes "mute")) (tick_shape c.args.idle c.args.at.0 c.args.at.1) (rw c.if-idle.true refl) c.add_titled_circle.ensures
+    other_tag c.add_dot.result (string_bytes c.args.out.now) (string_bytes c.add_dot.new.out) c.args.title.now
+    (Circle c.args.at.0 c.args.at.1 2 (codes "mute")) (tick_shape c.args.idle c.args.at.0 c.args.at.1) (rw c.if-idle.true refl) c.add_dot.ensures
 
 pub returns : goal.returns
 returns c =

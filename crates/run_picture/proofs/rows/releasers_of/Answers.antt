@@ -1,12 +1,23 @@
-use Rattle.std.proofs.Common.{◌+◌, ◌*◌, ◌≤◌, arith}
+use Rattle.std.proofs.Common.{◌+◌, ◌*◌, ◌≤◌, take, arith}
 use Rattle.watched_runs.specs.Shown.{shown}
 use Rattle.run_picture.specs.Rows.{released_count}
-use Rattle.run_picture.proofs.Placed.{givers_more}
+use Rattle.run_picture.proofs.Placed.{givers_all, givers_more, taken}
 use Rattle.run_picture.proofs.rows.releasers_of.Goals as goal
 
 pub loop-i-preserved : goal.loop-i-preserved
-loop-i-preserved c = record {
-  rows = givers_more released_count c.args.run.now.rows c.loop-i.i (shown c.row-row.result) c.loop-i.y c.row_height-y.result _ _ _ (rw c.len-i-end.ensures at c.loop-i-test.true) c.row-row.ensures c.in_ok-add_times.ensures
-      c.row_height-y.ensures.value c.loop-i.invariant.rows;
-  fits = omega (arith, c.loop-i.invariant.fits, c.row_height-y.ensures.small);
-}
+loop-i-preserved c =
+    let before = c.loop-i-test.true in
+    let asked = c.placed_count-end.ensures.asked in
+    record {
+      rows = givers_more released_count (take c.args.span.1 c.args.run.now.rows) c.args.span.0 c.loop-i.i (shown c.row-row.result) c.loop-i.y
+          c.row_at.result c.row_behind-y.result _ _ _
+          (rw c.placed_count-end.ensures.value at before)
+          (taken c.args.run.now.rows c.args.span.1 c.loop-i.i (shown c.row-row.result) (omega (arith, before, asked)) c.row-row.ensures)
+          c.in_ok-add_times.ensures c.row_at.ensures c.row_behind-y.ensures.value c.loop-i.invariant.rows;
+      fits = omega (arith, c.loop-i.invariant.fits, c.row_behind-y.ensures.small);
+    }
+
+pub returns : goal.returns
+returns c =
+    givers_all released_count (take c.args.span.1 c.args.run.now.rows) c.args.span.0 c.loop-i.i c.loop-i.y _ _
+    (rw c.placed_count-end.ensures.value at c.loop-i-test.false) c.loop-i.invariant.rows

@@ -6,4 +6,4 @@ use Rattle.upsched_run.proofs.rows.print_rows.Given as goal
 
 abbrev pub invariant-loop-i : goal.invariant-loop-i
 invariant-loop-i g l =
-    Appends (g.O.Write.contents l.initial.output) (g.O.Write.contents l.output) (flat_map (row_lines l.is_traced) (take l.i l.run.rows))
+    Appends (g.O.Write.contents l.initial.output) (g.O.Write.contents l.output) (flat_map (row_lines l.trace) (take l.i l.run.rows))
