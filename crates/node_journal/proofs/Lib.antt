@@ -1,3 +1,5 @@
 mod Pieces
 mod Steps
 mod Orders
+mod Standing
+mod Counting

@@ -1,5 +1,7 @@
 -- An order of what nodes did, with one more step.
-use Rattle.std.proofs.Common.{◌≡◌, ◌≢◌, ◌∙◌, ◌⊎◌, inl, inr, ⊎_elim, ℕ, zero, suc, ◌+◌, ◌<◌, ◌==◌, List, [], ◌∷◌, ◌++◌, Vec, All, Some, IsTrue, length, map, filter, take, slice_get, slice_set, refl, sym, ap, subst, arith}
+use Rattle.std.proofs.Common.{◌≡◌, ◌≢◌, ◌∙◌, ◌⊎◌, inl, inr, ⊎_elim, ℕ, zero, suc, ◌+◌, ◌<◌, ◌==◌, List, [], ◌∷◌, ◌++◌}
+use Rattle.std.proofs.Common.{Vec, All, Some, IsTrue, length, map, filter, take, slice_get, slice_set, refl, sym, ap}
+use Rattle.std.proofs.Common.{subst, arith}
 use Rattle.std.proofs.lemmas.Bool.Decides.{eqb_tells}
 use Rattle.std.proofs.lemmas.Grind.{flat_map-append}
 use Rattle.std.proofs.lemmas.List.{append-nil, length-set, map-append, take-append-le, take_all}
@@ -10,7 +12,7 @@ use Rattle.std.specs.declared.alloc.Global.{Global}
 use Rattle.ballots.specs.Members.{member_count}
 use Rattle.ballots.specs.declared.letters.Letter.{Letter}
 use Rattle.ballots.specs.declared.members.Members.{Members}
-use Rattle.node_journal.specs.Following.{Adds, AreFollowed, HaveOrder, IsFollowed, IsQuiet, Steps}
+use Rattle.node_journal.specs.Following.{Adds, AreFollowed, AreOrdered, HaveOrder, IsFollowed, IsQuiet, Steps}
 use Rattle.node_journal.specs.declared.follower.Follower.{Follower}
 use Rattle.node_journal.specs.Journal.{Writes}
 use Rattle.node_journal.specs.Legal.{AreLegalJournals}
@@ -20,7 +22,8 @@ use Rattle.node.specs.View.{Standing}
 use Rattle.node_worker.specs.KeptView.{IsReplay}
 use Rattle.node_worker.specs.Replays.{ReplaysTo}
 use Rattle.node_worker.specs.Entries.{EntryView}
-use Rattle.node_worker.specs.Legal.{AllCome, Comes, entries_of, letters_of}
+use Rattle.node_journal.specs.declared.phase.Phase.{Phase}
+use Rattle.node_worker.specs.Legal.{AllCome, Comes, IsSound, entries_of, letters_of}
 use Rattle.node_worker.specs.declared.entry.Done.{Done}
 
 -- the element that was set, and any other
@@ -139,7 +142,7 @@ quiet_adds sent me old new Ends quiet adds = adds
 quiet_adds sent me old new Torn quiet adds = adds
 
 -- an element at each place
-element : {A : Type 0} (xs : List A) (k : ℕ) → k < length xs → (x : A) × (slice_get xs k ≡ Some x)
+pub element : {A : Type 0} (xs : List A) (k : ℕ) → k < length xs → (x : A) × (slice_get xs k ≡ Some x)
 element [] k within = absurd (omega (arith, within))
 element (x ∷ xs) zero within = (x, refl)
 element (x ∷ xs) (suc k) within = element xs k (omega (arith, within))
@@ -170,47 +173,62 @@ nothing_done followers none = (
   },
 )
 
+-- the records of followers that are replays are sound
+pub sound_records : (members : Members) (journals : List (List ℕ)) (followers : List Follower) (sent : List Letter) (records : List Done) → AreFollowed members journals followers → AreOrdered followers sent records
+    → ((k : ℕ) (f : Follower) (journal : List ℕ) → slice_get followers k ≡ Some f → slice_get journals k ≡ Some journal → IsReplay f.kept × IsTrue f.kept.honest)
+    → IsSound (member_count members) records
+sound_records members journals followers sent records all ordered replays = record {
+  named = subst (λ n. All (λ (d : Done). d.node < n) records) all.many ordered.named;
+  replay = λ k within.
+      let f = element followers k (subst (λ n. k < n) (sym all.many) within) in
+      let j = element journals k (subst (λ n. k < n) (sym all.each) within) in
+      let is = all.followed k f.0 j.0 f.1 j.1 in
+      let replay = replays k f.0 j.0 f.1 j.1 in
+      let at : (t : Standing) × ReplaysTo f.0.kept.members f.0.kept.node f.0.kept.entries t = replay.0 replay.1 in
+      let id : f.0.kept.node ≡ k = is.node ∙ (all.numbered k f.0 f.1).0 in
+      let count : f.0.kept.members ≡ member_count members = is.members ∙ ap member_count (all.numbered k f.0 f.1).1 in (
+        at.0,
+        subst (λ (es : List EntryView). ReplaysTo (member_count members) k es at.0) (sym (ordered.done k f.0 f.1))
+            (subst (λ (n : ℕ). ReplaysTo (member_count members) n f.0.kept.entries at.0) id
+            (subst (λ (m : ℕ). ReplaysTo m f.0.kept.node f.0.kept.entries at.0) count at.1)),
+      );
+  come = ordered.come;
+}
+
+-- what a follower knows, of journal k and by the records
+pub as_records : (members : Members) (journals : List (List ℕ)) (followers : List Follower) (sent : List Letter) (records : List Done) → AreFollowed members journals followers → AreOrdered followers sent records
+    → (P : ℕ → Members → List EntryView → Type 0) (k : ℕ) (f : Follower) → slice_get followers k ≡ Some f → P f.id f.members f.kept.entries → P k members (entries_of k records)
+as_records members journals followers sent records all ordered P k f at holds =
+    subst (λ (es : List EntryView). P k members es) (sym (ordered.done k f at))
+    (subst (λ (ms : Members). P k ms f.kept.entries) (all.numbered k f at).1
+    (subst (λ (n : ℕ). P n f.members f.kept.entries) (all.numbered k f at).0 holds))
+
+-- what a follower wrote whose journal is followed to its end
+pub wrote_all : (members : Members) (journals : List (List ℕ)) (followers : List Follower) (sent : List Letter) (records : List Done) → AreFollowed members journals followers → AreOrdered followers sent records
+    → (k : ℕ) (f : Follower) (journal : List ℕ) → slice_get followers k ≡ Some f → slice_get journals k ≡ Some journal → f.place ≡ length journal
+    → (phase : Phase) × Writes k members journal (entries_of k records) phase
+wrote_all members journals followers sent records all ordered k f journal at there end =
+    let whole : take f.place journal ≡ journal = ap (λ n. take n journal) end ∙ take_all (length journal) journal (omega arith) in (
+      f.phase,
+      as_records members journals followers sent records all ordered (λ n ms es. Writes n ms journal es f.phase) k f at
+          (subst (λ (t : List ℕ). Writes f.id f.members t f.kept.entries f.phase) whole (all.followed k f journal at there).written),
+    )
+
 -- where each journal is followed to its end, the records are those of which the journals are the lines
 pub lines_of : (members : Members) (journals : List (List ℕ)) (followers : List Follower) (sent : List Letter) → AreFollowed members journals followers → HaveOrder followers sent
     → ((k : ℕ) (f : Follower) (journal : List ℕ) → slice_get followers k ≡ Some f → slice_get journals k ≡ Some journal → (f.place ≡ length journal) × IsReplay f.kept × IsTrue f.kept.honest)
     → AreLegalJournals members journals
-lines_of members journals followers sent all (records, ordered) ended =
-    let there : (k : ℕ) → k < member_count members → (f : Follower) × (slice_get followers k ≡ Some f) = λ k within. element followers k (subst (λ n. k < n) (sym all.many) within) in
-    let text : (k : ℕ) → k < member_count members → (j : List ℕ) × (slice_get journals k ≡ Some j) = λ k within. element journals k (subst (λ n. k < n) (sym all.each) within) in (
-      records,
-      record {
-        each = all.each;
-        sound = record {
-          named = subst (λ n. All (λ (d : Done). d.node < n) records) all.many ordered.named;
-          replay = λ k within.
-              let f = there k within in
-              let j = text k within in
-              let is = all.followed k f.0 j.0 f.1 j.1 in
-              let end = ended k f.0 j.0 f.1 j.1 in
-              let at : (t : Standing) × ReplaysTo f.0.kept.members f.0.kept.node f.0.kept.entries t = end.1 end.2 in
-              let id : f.0.kept.node ≡ k = is.node ∙ (all.numbered k f.0 f.1).0 in
-              let count : f.0.kept.members ≡ member_count members = is.members ∙ ap member_count (all.numbered k f.0 f.1).1 in (
-                at.0,
-                subst (λ (es : List EntryView). ReplaysTo (member_count members) k es at.0) (sym (ordered.done k f.0 f.1))
-                    (subst (λ (n : ℕ). ReplaysTo (member_count members) n f.0.kept.entries at.0) id
-                    (subst (λ (m : ℕ). ReplaysTo m f.0.kept.node f.0.kept.entries at.0) count at.1)),
-              );
-          come = ordered.come;
-        };
-        written = λ k journal at.
-            let within : k < member_count members = subst (λ n. k < n) all.each (slice_get_within journals k journal at) in
-            let f = there k within in
-            let is = all.followed k f.0 journal f.1 at in
-            let end = ended k f.0 journal f.1 at in
-            let whole : take f.0.place journal ≡ journal = ap (λ n. take n journal) end.0 ∙ take_all (length journal) journal (omega arith) in (
-              f.0.phase,
-              subst (λ (es : List EntryView). Writes k members journal es f.0.phase) (sym (ordered.done k f.0 f.1))
-                  (subst (λ (t : List ℕ). Writes k members t f.0.kept.entries f.0.phase) whole
-                  (subst (λ (ms : Members). Writes k ms (take f.0.place journal) f.0.kept.entries f.0.phase) (all.numbered k f.0 f.1).1
-                  (subst (λ (n : ℕ). Writes n f.0.members (take f.0.place journal) f.0.kept.entries f.0.phase) (all.numbered k f.0 f.1).0 is.written))),
-            );
-      },
-    )
+lines_of members journals followers sent all (records, ordered) ended = (
+  records,
+  record {
+    each = all.each;
+    sound = sound_records members journals followers sent records all ordered (λ k f journal at there. ((ended k f journal at there).1, (ended k f journal at there).2));
+    written = λ k journal at.
+        let within : k < member_count members = subst (λ n. k < n) all.each (slice_get_within journals k journal at) in
+        let f = element followers k (subst (λ n. k < n) (sym all.many) within) in
+        wrote_all members journals followers sent records all ordered k f.0 journal f.1 at (ended k f.0 journal f.1 at).0;
+  },
+)
 
 -- what holds of each element holds with one more
 pub one_more : {A : Type 0} (P : ℕ → A → Type 0) (xs : List A) (x : A) → P (length xs) x → ((k : ℕ) (y : A) → slice_get xs k ≡ Some y → P k y) → (k : ℕ) (y : A) → slice_get (xs ++ x ∷ []) k ≡ Some y → P k y
@@ -221,9 +239,9 @@ less : (k n : ℕ) → k < n + 1 → k ≢ n → k < n
 less k n below other = omega (arith, below, other)
 
 -- what holds up to a place holds behind it too
-pub one_further : {A B : Type 0} (P : A → B → Type 0) (xs : List A) (ys : List B) (n : ℕ) (x : A) (y : B) → slice_get xs n ≡ Some x → slice_get ys n ≡ Some y → P x y
-    → ((k : ℕ) (a : A) (b : B) → k < n → slice_get xs k ≡ Some a → slice_get ys k ≡ Some b → P a b)
-    → (k : ℕ) (a : A) (b : B) → k < n + 1 → slice_get xs k ≡ Some a → slice_get ys k ≡ Some b → P a b
+pub one_further : {A B : Type 0} (P : ℕ → A → B → Type 0) (xs : List A) (ys : List B) (n : ℕ) (x : A) (y : B) → slice_get xs n ≡ Some x → slice_get ys n ≡ Some y → P n x y
+    → ((k : ℕ) (a : A) (b : B) → k < n → slice_get xs k ≡ Some a → slice_get ys k ≡ Some b → P k a b)
+    → (k : ℕ) (a : A) (b : B) → k < n + 1 → slice_get xs k ≡ Some a → slice_get ys k ≡ Some b → P k a b
 one_further {A} {B} P xs ys n x y at there here before k a b below left right =
     ⊎_elim
     (λ same.
@@ -231,6 +249,6 @@ one_further {A} {B} P xs ys n x y at there here before k a b below left right =
     let second : Some y ≡ Some b = sym there ∙ subst (λ m. slice_get ys m ≡ Some b) same.1 right in
     let is : x ≡ a = cc in
     let other : y ≡ b = cc in
-    subst (λ (v : B). P a v) other (subst (λ (u : A). P u y) is here))
+    subst (λ (m : ℕ). P m a b) (sym same.1) (subst (λ (v : B). P n a v) other (subst (λ (u : A). P n u y) is here)))
     (λ other. before k a b (less k n below other.1) left right)
     (eqb_tells k n)

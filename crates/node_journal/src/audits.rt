@@ -1,10 +1,15 @@
 //! Whether journals are the lines of legal records.
 
-ghost use Rattle.std.specs.Prelude.{◌≡◌, IfOk};
+ghost use Rattle.std.specs.Prelude.{◌≡◌, IfErr, IfOk, IsOk, MatchOption, Some, length, slice_get};
+ghost use Rattle.ballots.specs.Members.{member_count};
+ghost use Rattle.node_journal.specs.Following.{StopsSo};
 ghost use Rattle.node_journal.specs.Legal.{AreLegalJournals};
-ghost use Rattle.node_journal.specs.declared.audits.Verdict.TheVariants.{Yes};
+ghost use Rattle.node_journal.specs.Tears.{IsTear, line_of};
+ghost use Rattle.node_journal.specs.declared.audits.Verdict.TheVariants.{Torn, Yes};
+ghost use Rattle.node_journal.specs.declared.tear.Tear.{Tear as TearView};
 
 use crate::following::{Stop, follow_all};
+use crate::tear::{Tear, Why};
 use ballots::{Bytes, Members};
 use seats::OutOfMemory;
 use std::alloc::Global;
@@ -17,16 +22,18 @@ const MOST_TRIES: usize = 1000;
 pub enum Verdict {
     /// The journals are the lines of legal records.
     Yes,
-    /// The journal of this number isn't followed behind the beginning of this line, which are counted from 1 on.
-    Torn(usize, usize),
+    /// A journal isn't followed behind the beginning of a line.
+    Torn(Tear),
 }
 
 /// The number of the line in which a place of a text stands.
-fn line_at(text: &[u8], place: usize) -> usize {
+fn line_at(text: &[u8], place: usize) -> usize
+    ensures { result ≡ line_of text.now place }
+{
     let mut line = 1usize;
     for i in 0..place.min(text.len()) {
         if text[i] == b'\n' {
-            line = line.saturating_add(1);
+            line += 1;
         }
     }
     line
@@ -61,11 +68,16 @@ fn try_next(skips: &mut Vec<Vec<bool>>, stop: Stop) -> Result<bool, OutOfMemory>
     }
 }
 
-/// The line that a journal doesn't go on with.
-fn line_of(journals: &[Bytes], stop: Stop) -> usize {
-    match journals.get(stop.journal) {
-        Some(journal) => line_at(journal.as_slice(), stop.place),
-        None => 1,
+/// The line that a journal doesn't go on with, and why.
+fn tear_at(members: Members, journals: &[Bytes], stop: Stop) -> Tear
+    requires members { length journals.now ≡ member_count members }
+    requires stop { StopsSo members journals.now stop }
+    ensures { IsTear members journals.now result }
+{
+    Tear {
+        journal: stop.journal,
+        line: line_at(journals[stop.journal].as_slice(), stop.place),
+        why: stop.why,
     }
 }
 
@@ -78,29 +90,55 @@ fn no_skips(alloc: Global, journals: &[Bytes]) -> Result<Vec<Vec<bool>>, OutOfMe
     Ok(skips)
 }
 
+/// Follows the journals, and where one isn't followed takes the lines without a reply the other way, a thousand times in
+/// all. Where none of the ways leads to all ends, the last one of those that lead furthest.
+fn follow_each_way(
+    alloc: Global,
+    members: Members,
+    journals: &[Bytes],
+) -> Result<Result<(), Stop>, OutOfMemory>
+    requires { length journals.now ≡ member_count members }
+    ensures legal { IfOk result (λ found. IsOk found → AreLegalJournals members journals.now) }
+    ensures stop { IfOk result (λ found. IfErr found (StopsSo members journals.now)) }
+{
+    let mut skips = no_skips(alloc, journals)?;
+    let Err(first) = follow_all(alloc, members, journals, &skips)? else {
+        return Ok(Ok(()));
+    };
+    let mut last = first;
+    let mut furthest = first;
+    for _ in 1..MOST_TRIES {
+        if !try_next(&mut skips, last)? {
+            return Ok(Err(furthest));
+        }
+        let Err(stop) = follow_all(alloc, members, journals, &skips)? else {
+            return Ok(Ok(()));
+        };
+        last = stop;
+        if stop.place >= furthest.place {
+            furthest = stop;
+        }
+    }
+    Ok(Err(furthest))
+}
+
 /// Whether the journals of so many members, by number, are the lines of legal records: each node does again what its
 /// lines ask, and each reply is the one that is there; and each letter that came was sent before. Where a line has no
-/// reply, both is tried, that it was obeyed and that it wasn't, a thousand times in all.
+/// reply, both is tried, that it was obeyed and that it wasn't, a thousand times in all. Of torn journals it says where
+/// one isn't followed, and why.
 pub fn audit(alloc: Global, members: Members, journals: &[Bytes]) -> Result<Verdict, OutOfMemory>
-    ensures { IfOk result (λ verdict. verdict ≡ Yes → AreLegalJournals members journals.now) }
+    ensures legal { IfOk result (λ verdict. verdict ≡ Yes → AreLegalJournals members journals.now) }
+    ensures torn { IfOk result (λ verdict. (tear : TearView) → verdict ≡ Torn tear → IsTear members journals.now tear) }
 {
     if journals.len() != usize::from(members.count()) {
-        return Ok(Verdict::Torn(journals.len(), 1));
+        return Ok(Verdict::Torn(Tear {
+            journal: journals.len(),
+            line: 1,
+            why: Why::NoLine,
+        }));
     }
-    let mut skips = no_skips(alloc, journals)?;
-    let mut furthest = (0usize, 1usize);
-    let mut most = 0usize;
-    for _ in 0..MOST_TRIES {
-        let Err(stop) = follow_all(alloc, members, journals, &skips)? else {
-            return Ok(Verdict::Yes);
-        };
-        if stop.place >= most {
-            most = stop.place;
-            furthest = (stop.journal, line_of(journals, stop));
-        }
-        if !try_next(&mut skips, stop)? {
-            break;
-        }
+    match follow_each_way(alloc, members, journals)? {
+        Ok(()) => Ok(Verdict::Yes),
+        Err(stop) => Ok(Verdict::Torn(tear_at(members, journals, stop))),
     }
-    Ok(Verdict::Torn(furthest.0, furthest.1))
 }

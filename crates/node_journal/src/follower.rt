@@ -1,9 +1,13 @@
 //! A node that does again what its journal tells.
 
-ghost use Rattle.std.specs.Prelude.{◌≡◌, ◌≤◌, ◌<◌, ◌+◌, ◌^◌, ◌∷◌, ◌++◌, [], ℕ, List, IfOk, IsTrue, OnOk, length, drop};
+ghost use Rattle.std.specs.Prelude.{◌≡◌, ◌≤◌, ◌<◌, ◌+◌, ◌^◌, ◌∷◌, ◌++◌, [], ℕ, List, IfOk, IfSome, IsTrue, OnOk};
+ghost use Rattle.std.specs.Prelude.{length, drop};
 ghost use Rattle.ballots.specs.Members.{member_count};
 ghost use Rattle.ballots.specs.declared.letters.Letter.{Letter as Sending};
-ghost use Rattle.node_journal.specs.Following.{IsDoubtOf, IsFollowed, IsHalf, IsQuiet, IsStopOf, SamePlace, Steps, Works, WorksAs};
+ghost use Rattle.node_journal.specs.Following.{IsCrashPart, IsDoubtOf, IsFollowed, IsHalf, IsOfLife, IsQuiet};
+ghost use Rattle.node_journal.specs.Following.{IsWholeCrash, SamePlace, Steps, Works, WorksAs};
+ghost use Rattle.node_journal.specs.Tears.{GoesOn, GoesOtherwise, IsAtLetter};
+ghost use Rattle.node_journal.specs.declared.tear.Why.TheVariants as whys;
 ghost use Rattle.node_journal.specs.Turns.{cause_of as cause_of_lem, crash_entry, restart_entry};
 ghost use Rattle.node_journal.specs.declared.phase.Phase.TheVariants as phase;
 ghost use Rattle.node_lines.specs.Input.{IsLine};
@@ -15,10 +19,14 @@ ghost use Rattle.node_worker.specs.Legal.{Comes};
 
 use crate::phase::Phase;
 use crate::replies::{
-    Course, Guesses, acted_of, cause_of, head_bytes, letters_out, reply_bytes, what_is_asked,
+    Course, CrashPart, Guesses, acted_of, cause_of, head_bytes, letters_out, reply_bytes,
+    what_is_asked,
 };
 use crate::sent::Sent;
-use crate::texts::{begins_life, common, goes_on_with_life, split_line, written_part};
+use crate::tear::Why;
+use crate::texts::{
+    begins_life, common, goes_on, goes_on_otherwise, goes_on_with_life, split_line, written_part,
+};
 use acceptor::PlainRecords;
 use ballots::{Letter, Members, NodeId};
 use node::SchedNode;
@@ -50,6 +58,28 @@ fn step_over(count: usize) -> Step
     if count > 0 { Step::Moved } else { Step::Torn }
 }
 
+/// Why a journal is torn that has another byte than the reply behind so many of its bytes.
+fn why_of_reply(after: &[u8], reply: &[u8], count: usize) -> Option<Why>
+    ensures { IfSome result (λ why. (why ≡ whys.OtherReply) × GoesOtherwise after.now count reply.now count) }
+{
+    if goes_on_otherwise(after, reply, count) {
+        Some(Why::OtherReply)
+    } else {
+        None
+    }
+}
+
+/// Why a journal is torn where a life has to begin behind the reply that the node crashed.
+fn why_of_crash(after: &[u8], part: CrashPart) -> Option<Why>
+    ensures { IfSome result (λ why. (why ≡ whys.NoLine) × IsTrue part.is_whole × GoesOn after.now part.count) }
+{
+    if part.is_whole && goes_on(after, part.count) {
+        Some(Why::NoLine)
+    } else {
+        None
+    }
+}
+
 /// A node with records in memory, and how far its journal is followed.
 #[derive(Drop)]
 pub(crate) struct Follower {
@@ -58,6 +88,8 @@ pub(crate) struct Follower {
     pub(crate) kept: Kept<PlainNode>,
     pub(crate) place: usize,
     pub(crate) phase: Phase,
+    /// Why its journal is torn, if it doesn't go on here.
+    pub(crate) why: Option<Why>,
 }
 
 impl Follower {
@@ -81,18 +113,20 @@ impl Follower {
             kept: Kept::new(alloc, node, lines)?,
             place: 0,
             phase: Phase::Unborn,
+            why: None,
         })
     }
 
     /// So many more bytes of the journal are followed, and it stands so then.
-    fn go(&mut self, count: usize, phase: Phase) -> Result<(), OutOfMemory>
-        ensures { OnOk result (self.new ≡ record self.old { place = self.old.place + count; phase = phase }) }
+    fn go(&mut self, count: usize, phase: Phase, why: Option<Why>) -> Result<(), OutOfMemory>
+        ensures { OnOk result (self.new ≡ record self.old { place = self.old.place + count; phase = phase; why = why }) }
     {
         let Some(place) = self.place.checked_add(count) else {
             return Err(OutOfMemory);
         };
         self.place = place;
         self.phase = phase;
+        self.why = why;
         Ok(())
     }
 
@@ -129,6 +163,20 @@ impl Follower {
         }
     }
 
+    /// Why the journal is torn behind so many bytes of the first lines of a life.
+    fn why_of_life(&self, rest: &[u8], count: usize) -> Option<Why>
+        ensures { IsOfLife self.now rest.now count result }
+    {
+        if count == 0 && self.place > 0 {
+            return self.why;
+        }
+        if goes_on(rest, count) {
+            Some(Why::NoLine)
+        } else {
+            None
+        }
+    }
+
     /// Where no life goes on and the node holds nothing.
     fn begin(&mut self, alloc: Global, text: &[u8]) -> Result<Step, OutOfMemory>
         requires followed { IsFollowed text.now self.old }
@@ -139,10 +187,11 @@ impl Follower {
         let rest = &text[self.place..];
         let count = written_part(rest, &head);
         if count == head.len() {
-            self.go(count, Phase::Up)?;
+            self.go(count, Phase::Up, None)?;
             return Ok(Step::Moved);
         }
-        self.go(count, Phase::Cut)?;
+        let why = self.why_of_life(rest, count);
+        self.go(count, Phase::Cut, why)?;
         Ok(step_over(count))
     }
 
@@ -157,10 +206,11 @@ impl Follower {
         let count = written_part(rest, &head);
         if count == head.len() {
             self.restart()?;
-            self.go(count, Phase::Up)?;
+            self.go(count, Phase::Up, None)?;
             return Ok(Step::Did(Vec::new(alloc)));
         }
-        self.go(count, Phase::Down)?;
+        let why = self.why_of_life(rest, count);
+        self.go(count, Phase::Down, why)?;
         Ok(step_over(count))
     }
 
@@ -180,12 +230,13 @@ impl Follower {
         ensures { IfOk result (λ step. (sent : List Sending) → Steps text.now sent self.old step self.new) }
     {
         let begins = self.begins_anew(alloc, &text[self.place..])?;
+        let why = self.why;
         if begins && self.kept.entries().is_empty() {
-            self.go(0, Phase::Unborn)?;
+            self.go(0, Phase::Unborn, why)?;
             return Ok(Step::Moved);
         }
         self.crash()?;
-        self.go(0, Phase::Down)?;
+        self.go(0, Phase::Down, why)?;
         Ok(Step::Did(Vec::new(alloc)))
     }
 
@@ -208,35 +259,36 @@ impl Follower {
         let reply = reply_bytes(alloc, &Reply::Refused(why))?;
         let count = written_part(after, &reply);
         if count == reply.len() {
-            self.go(line.len() + 1 + count, Phase::Up)?;
+            self.go(line.len() + 1 + count, Phase::Up, None)?;
             return Ok(Step::Moved);
         }
-        self.go(line.len() + 1 + count, Phase::Cut)?;
+        let why = why_of_reply(after, &reply, count);
+        self.go(line.len() + 1 + count, Phase::Cut, why)?;
         Ok(Step::Moved)
     }
 
-    /// A line that asks something isn't obeyed, and the life ends behind so many bytes of a reply that the node
-    /// crashed.
+    /// A line that asks something isn't obeyed, and the life ends behind these bytes of a reply that the node crashed.
     fn leave(
         &mut self,
         text: &[u8],
         line: &[u8],
         after: &[u8],
-        count: usize,
+        part: CrashPart,
     ) -> Result<Step, OutOfMemory>
         requires followed { IsFollowed text.now self.old }
         requires phase { self.old.phase ≡ phase.Up }
         requires text { drop self.old.place text.now ≡ line.now ++ 10 ∷ after.now }
         requires line { IsLine line.now }
         requires asks { (asked : Asked) × Asks line.now asked }
-        requires part { IsStopOf after.now count }
+        requires part { IsCrashPart after.now part }
         ensures { IfOk result (λ step. (sent : List Sending) → Steps text.now sent self.old step self.new) }
     {
-        self.go(line.len() + 1 + count, Phase::Cut)?;
+        let why = why_of_crash(after, part);
+        self.go(line.len() + 1 + part.count, Phase::Cut, why)?;
         Ok(Step::Moved)
     }
 
-    /// A line is obeyed, and the life ends behind so many bytes of the reply that the store broke.
+    /// A line is obeyed, and the life ends behind these bytes of the reply that the store broke.
     fn obey_and_stop(
         &mut self,
         alloc: Global,
@@ -244,18 +296,20 @@ impl Follower {
         line: &[u8],
         after: &[u8],
         asked: Request,
-        count: usize,
+        part: CrashPart,
     ) -> Result<Step, OutOfMemory>
         requires followed { IsFollowed text.now self.old }
         requires phase { self.old.phase ≡ phase.Up }
         requires text { drop self.old.place text.now ≡ line.now ++ 10 ∷ after.now }
         requires line { IsLine line.now }
         requires asks { Asks line.now asked }
-        requires part { IsDoubtOf after.now count }
+        requires part { IsDoubtOf after.now part.count }
+        requires whole { IsTrue part.is_whole → IsWholeCrash after.now part.count }
         ensures { IfOk result (λ step. (sent : List Sending) → Comes sent self.old.id (cause_of_lem asked) → Steps text.now sent self.old step self.new) }
     {
         let acted = self.work(cause_of(asked))?;
-        self.go(line.len() + 1 + count, Phase::Cut)?;
+        let why = why_of_crash(after, part);
+        self.go(line.len() + 1 + part.count, Phase::Cut, why)?;
         Ok(Step::Did(letters_out(alloc, Reply::Acted(acted))))
     }
 
@@ -280,10 +334,12 @@ impl Follower {
         let bytes = reply_bytes(alloc, &reply)?;
         let count = written_part(after, &bytes);
         if count == bytes.len() {
-            self.go(line.len() + 1 + count, Phase::Up)?;
+            self.go(line.len() + 1 + count, Phase::Up, None)?;
             return Ok(Step::Did(letters_out(alloc, reply)));
         }
-        self.go(line.len() + 1 + count, Phase::Cut)?;
+        let _entries = self.kept.entries();
+        let why = why_of_reply(after, &bytes, count);
+        self.go(line.len() + 1 + count, Phase::Cut, why)?;
         Ok(Step::Did(letters_out(alloc, reply)))
     }
 
@@ -315,8 +371,8 @@ impl Follower {
         ensures { IfOk result (λ step. (sent : List Sending) → Comes sent self.old.id (cause_of_lem asked) → Steps text.now sent self.old step self.new) }
     {
         match guesses.course(alloc, after)? {
-            Course::Left(count) => self.leave(text, line, after, count),
-            Course::Stopped(count) => self.obey_and_stop(alloc, text, line, after, asked, count),
+            Course::Left(part) => self.leave(text, line, after, part),
+            Course::Stopped(part) => self.obey_and_stop(alloc, text, line, after, asked, part),
             Course::Obeyed => self.obey(alloc, text, line, after, asked),
         }
     }
@@ -354,7 +410,7 @@ impl Follower {
         requires half { IsHalf (drop self.old.place text.now) count }
         ensures { IfOk result (λ step. (sent : List Sending) → Steps text.now sent self.old step self.new) }
     {
-        self.go(count, Phase::Cut)?;
+        self.go(count, Phase::Cut, None)?;
         Ok(Step::Moved)
     }
 
@@ -425,6 +481,27 @@ impl Follower {
             Phase::Up => self.live(alloc, text, sent, guesses),
             Phase::Cut => self.end(alloc, text),
             Phase::Down => self.start_again(alloc, text),
+        }
+    }
+
+    /// The letter that the journal tells next, if it does.
+    pub(crate) fn letter_at(
+        &self,
+        alloc: Global,
+        text: &[u8],
+    ) -> Result<Option<Letter>, OutOfMemory>
+        requires { IsFollowed text.now self.now }
+        ensures { IfOk result (λ found. IfSome found (IsAtLetter self.now.id self.now.members text.now self.now.kept.entries self.now.place)) }
+    {
+        let Phase::Up = self.phase else {
+            return Ok(None);
+        };
+        let Some((line, after)) = split_line(&text[self.place..]) else {
+            return Ok(None);
+        };
+        match what_is_asked(alloc, line, after)? {
+            Incoming::Asks(Request::Letter(letter)) => Ok(Some(letter)),
+            _ => Ok(None),
         }
     }
 

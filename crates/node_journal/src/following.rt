@@ -1,25 +1,29 @@
 //! Journals that are followed side by side: each goes on as far as the letters that came to it were sent.
 
-ghost use Rattle.std.specs.Prelude.{◌≡◌, ℕ, ◌<◌, List, IfOk, IsTrue, IsOk, OnOk, MatchOption, length};
+ghost use Rattle.std.specs.Prelude.{◌≡◌, ◌↔◌, ◌<◌, ◌≤◌, Contains, IfErr, IfOk, IfSome, IsTrue, IsOk, OnOk, MatchOption};
+ghost use Rattle.std.specs.Prelude.{length};
 ghost use Rattle.ballots.specs.Members.{member_count};
-ghost use Rattle.node_journal.specs.Following.{IsReached};
+ghost use Rattle.node_journal.specs.Following.{AreEnded, AreStill, IsReached, IsWaitingAt, IsWhyOfLetter, StandsAt};
+ghost use Rattle.node_journal.specs.Following.{StopsSo, TearsOne};
 ghost use Rattle.node_journal.specs.Legal.{AreLegalJournals};
 
 use crate::follower::{Follower, Step};
 use crate::replies::Guesses;
 use crate::sent::Sent;
-use ballots::{Bytes, Members, NodeId};
+use crate::tear::Why;
+use ballots::{Bytes, Letter, Members, NodeId};
 use seats::OutOfMemory;
 use std::alloc::Global;
 
 /// Where a journal doesn't go on: its number, how many bytes of it were followed, how many lines without a reply they
-/// have, and whether a letter isn't there that it waits for.
+/// have, whether it reads a letter there that didn't come, and why it doesn't go on.
 #[derive(Clone, Copy, Debug)]
 pub(crate) struct Stop {
     pub(crate) journal: usize,
     pub(crate) place: usize,
     pub(crate) doubts: usize,
     pub(crate) waits: bool,
+    pub(crate) why: Why,
 }
 
 /// Why a follower doesn't go on for now.
@@ -38,6 +42,24 @@ enum Round {
     Stays,
     /// This journal doesn't go on.
     Torn(usize),
+}
+
+/// Why a journal doesn't go on with a letter that didn't come.
+fn why_of_letter(members: Members, me: NodeId, letter: &Letter) -> Why
+    ensures { IsWhyOfLetter members me letter.now result }
+{
+    if letter.to != me || letter.from.number() >= members.count() {
+        Why::NoLine
+    } else {
+        Why::Unsent(letter.from)
+    }
+}
+
+/// Whether a letter came that a node reads: it is to the node, and was sent.
+fn has_come(me: NodeId, sent: &Sent, letter: &Letter) -> bool
+    ensures { IsTrue result ↔ ((letter.now.to ≡ me) × Contains sent.now letter.now) }
+{
+    letter.to == me && sent.holds(letter)
 }
 
 /// How many lines a text has.
@@ -139,14 +161,16 @@ impl Following {
         sum
     }
 
-    /// Each follower goes on as far as it can, one after another.
-    fn go_round(&mut self, journals: &[Bytes]) -> Result<Round, OutOfMemory>
-        requires { IsReached journals.now self.old }
+    /// Each of the first so many followers goes on as far as it can, one after another.
+    fn go_round(&mut self, journals: &[Bytes], count: usize) -> Result<Round, OutOfMemory>
+        requires reached { IsReached journals.now self.old }
+        requires within { count ≤ length journals.now }
         ensures reached { OnOk result (IsReached journals.now self.new) }
         ensures members { self.new.members ≡ self.old.members }
+        ensures torn { IfOk result (TearsOne count) }
     {
         let before = self.length();
-        for k in 0..journals.len() {
+        for k in 0..count {
             if self.go_on(journals, k)? == Rest::Torn {
                 return Ok(Round::Torn(k));
             }
@@ -158,14 +182,16 @@ impl Following {
         })
     }
 
-    /// Rounds, until one of the journals is torn or none goes on. Which one is torn.
-    fn go_all(&mut self, journals: &[Bytes]) -> Result<Option<usize>, OutOfMemory>
-        requires { IsReached journals.now self.old }
+    /// Rounds of the first so many, until one of their journals is torn or none goes on. Which one is torn.
+    fn go_all(&mut self, journals: &[Bytes], count: usize) -> Result<Option<usize>, OutOfMemory>
+        requires reached { IsReached journals.now self.old }
+        requires within { count ≤ length journals.now }
         ensures reached { OnOk result (IsReached journals.now self.new) }
         ensures members { self.new.members ≡ self.old.members }
+        ensures torn { IfOk result (λ torn. IfSome torn (λ k. k < count)) }
     {
         for _ in 0..u64::MAX {
-            match self.go_round(journals)? {
+            match self.go_round(journals, count)? {
                 Round::Moved => {}
                 Round::Stays => return Ok(None),
                 Round::Torn(k) => return Ok(Some(k)),
@@ -174,10 +200,30 @@ impl Following {
         Ok(None)
     }
 
+    /// Rounds of all, and behind a journal that is torn of those before it alone. The first one that is torn.
+    fn first_torn(&mut self, journals: &[Bytes]) -> Result<Option<usize>, OutOfMemory>
+        requires { IsReached journals.now self.old }
+        ensures reached { OnOk result (IsReached journals.now self.new) }
+        ensures members { self.new.members ≡ self.old.members }
+        ensures torn { IfOk result (λ torn. IfSome torn (λ k. k < length journals.now)) }
+    {
+        let mut first = None;
+        let mut count = journals.len();
+        for _ in 0..journals.len() {
+            let Some(k) = self.go_all(journals, count)? else {
+                return Ok(first);
+            };
+            first = Some(k);
+            count = k;
+        }
+        Ok(first)
+    }
+
     /// The first journal that isn't followed to its end.
     fn first_left(&self, journals: &[Bytes]) -> Option<usize>
         requires { IsReached journals.now self.now }
-        ensures { MatchOption result (AreLegalJournals self.now.members journals.now) (λ k. k < length journals.now) }
+        ensures legal { MatchOption result (AreLegalJournals self.now.members journals.now) (λ k. k < length journals.now) }
+        ensures ended { IfSome result (AreEnded journals.now self.now) }
     {
         for k in 0..journals.len() {
             if !self.followers[k].has_followed(journals[k].as_slice()) {
@@ -187,22 +233,100 @@ impl Following {
         None
     }
 
-    /// The place where a journal doesn't go on.
-    fn stop_at(&self, k: usize, waits: bool) -> Stop {
-        let place = match self.followers.get(k) {
-            Some(follower) => follower.place,
-            None => 0,
-        };
-        let doubts = match self.guesses.get(k) {
+    /// How many lines without a reply were followed of a journal.
+    fn doubts(&self, k: usize) -> usize {
+        match self.guesses.get(k) {
             Some(guesses) => guesses.doubts,
             None => 0,
-        };
-        Stop {
-            journal: k,
-            place,
-            doubts,
-            waits,
         }
+    }
+
+    /// Where a journal waits, if it does: it reads a letter that didn't come.
+    fn waiting(&self, journals: &[Bytes], k: usize) -> Result<Option<Stop>, OutOfMemory>
+        requires reached { IsReached journals.now self.now }
+        requires within { k < length journals.now }
+        ensures { IfOk result (λ found. IfSome found (IsWaitingAt journals.now self.now k)) }
+    {
+        let follower = &self.followers[k];
+        let Some(letter) = follower.letter_at(self.alloc, journals[k].as_slice())? else {
+            return Ok(None);
+        };
+        if has_come(follower.id, &self.sent, &letter) {
+            return Ok(None);
+        }
+        Ok(Some(Stop {
+            journal: k,
+            place: follower.place,
+            doubts: self.doubts(k),
+            waits: true,
+            why: why_of_letter(self.members, follower.id, &letter),
+        }))
+    }
+
+    /// Whether a journal is followed to its end, or waits, where that is asked.
+    fn stands_still(&self, journals: &[Bytes], k: usize, asked: bool) -> Result<bool, OutOfMemory>
+        requires reached { IsReached journals.now self.now }
+        requires within { k < length journals.now }
+        ensures { IfOk result (λ still. IsTrue still → StandsAt journals.now self.now k asked) }
+    {
+        if self.followers[k].has_followed(journals[k].as_slice()) {
+            return Ok(true);
+        }
+        if !asked {
+            return Ok(true);
+        }
+        Ok(self.waiting(journals, k)?.is_some())
+    }
+
+    /// Whether each of the first so many journals does.
+    fn all_stand_still(&self, journals: &[Bytes], count: usize) -> Result<bool, OutOfMemory>
+        requires { IsReached journals.now self.now }
+        ensures { IfOk result (λ still. IsTrue still → AreStill journals.now self.now count) }
+    {
+        for k in 0..journals.len() {
+            if !self.stands_still(journals, k, k < count)? {
+                return Ok(false);
+            }
+        }
+        Ok(true)
+    }
+
+    /// Where a journal waits for a letter that doesn't come, and those before it are at their ends.
+    fn stop_waiting(&self, journals: &[Bytes], k: usize) -> Result<Stop, OutOfMemory>
+        requires reached { IsReached journals.now self.now }
+        requires within { k < length journals.now }
+        requires ended { AreEnded journals.now self.now k }
+        ensures { IfOk result (StopsSo self.now.members journals.now) }
+    {
+        if !self.all_stand_still(journals, journals.len())? {
+            return Err(OutOfMemory);
+        }
+        match self.waiting(journals, k)? {
+            Some(stop) => Ok(stop),
+            None => Err(OutOfMemory),
+        }
+    }
+
+    /// Where a journal is torn, and those before it stand still.
+    fn stop_torn(&self, journals: &[Bytes], k: usize) -> Result<Stop, OutOfMemory>
+        requires reached { IsReached journals.now self.now }
+        requires within { k < length journals.now }
+        ensures { IfOk result (StopsSo self.now.members journals.now) }
+    {
+        if !self.all_stand_still(journals, k)? {
+            return Err(OutOfMemory);
+        }
+        let follower = &self.followers[k];
+        let Some(why) = follower.why else {
+            return Err(OutOfMemory);
+        };
+        Ok(Stop {
+            journal: k,
+            place: follower.place,
+            doubts: self.doubts(k),
+            waits: false,
+            why,
+        })
     }
 }
 
@@ -214,14 +338,15 @@ pub(crate) fn follow_all(
     skips: &[Vec<bool>],
 ) -> Result<Result<(), Stop>, OutOfMemory>
     requires { length journals.now ≡ member_count members }
-    ensures { IfOk result (λ found. IsOk found → AreLegalJournals members journals.now) }
+    ensures legal { IfOk result (λ found. IsOk found → AreLegalJournals members journals.now) }
+    ensures stop { IfOk result (λ found. IfErr found (StopsSo members journals.now)) }
 {
     let mut following = Following::begin(alloc, members, journals, skips)?;
-    if let Some(k) = following.go_all(journals)? {
-        return Ok(Err(following.stop_at(k, false)));
+    if let Some(k) = following.first_torn(journals)? {
+        return Ok(Err(following.stop_torn(journals, k)?));
     }
     match following.first_left(journals) {
-        Some(k) => Ok(Err(following.stop_at(k, true))),
+        Some(k) => Ok(Err(following.stop_waiting(journals, k)?)),
         None => Ok(Ok(())),
     }
 }

@@ -1,7 +1,7 @@
 //! What is replied, and what is asked.
 
 ghost use Rattle.std.specs.Prelude.{◌≡◌, ◌∷◌, IfOk, IfSome};
-ghost use Rattle.node_journal.specs.Following.{IsCourse, IsPartOf, IsStopOf, letters_told};
+ghost use Rattle.node_journal.specs.Following.{IsCourse, IsCrashPart, IsPartOf, letters_told};
 ghost use Rattle.node_journal.specs.Turns.{Tells, cause_of as cause_of_lem};
 ghost use Rattle.node.specs.Calls.{IsStop};
 ghost use Rattle.node_service.specs.Incoming.{IsTakenFor};
@@ -17,12 +17,19 @@ use node_worker::{Ask, Cause, Ended, Entry};
 use seats::{Acted, OutOfMemory};
 use std::alloc::Global;
 
+/// How many bytes of a reply that the node crashed are there, and whether they are all of it.
+#[derive(Clone, Copy)]
+pub(crate) struct CrashPart {
+    pub(crate) count: usize,
+    pub(crate) is_whole: bool,
+}
+
 /// How a line that asks something goes on.
 pub(crate) enum Course {
-    /// It isn't obeyed, and the life ends behind so many bytes of a reply that the node crashed.
-    Left(usize),
-    /// It is obeyed, and the life ends behind so many bytes of the reply that the store broke.
-    Stopped(usize),
+    /// It isn't obeyed, and the life ends behind these bytes of a reply that the node crashed.
+    Left(CrashPart),
+    /// It is obeyed, and the life ends behind these bytes of the reply that the store broke.
+    Stopped(CrashPart),
     /// It is obeyed.
     Obeyed,
 }
@@ -56,18 +63,21 @@ impl Guesses {
     pub(crate) fn course(&mut self, alloc: Global, after: &[u8]) -> Result<Course, OutOfMemory>
         ensures { IfOk result (IsCourse after.now) }
     {
-        if let Some(count) = stop_length(alloc, after, NodeFault::Down)? {
+        if let Some(part) = crash_part(alloc, after, NodeFault::Down)? {
             return Ok(if self.skips() {
-                Course::Left(count)
+                Course::Left(part)
             } else {
-                Course::Stopped(count)
+                Course::Stopped(part)
             });
         }
-        if let Some(count) = undone_length(alloc, after)? {
-            return Ok(Course::Left(count));
+        if let Some(part) = undone_part(alloc, after)? {
+            return Ok(Course::Left(part));
         }
         if begins_life(after) && self.skips() {
-            return Ok(Course::Left(0));
+            return Ok(Course::Left(CrashPart {
+                count: 0,
+                is_whole: false,
+            }));
         }
         Ok(Course::Obeyed)
     }
@@ -175,21 +185,29 @@ pub(crate) fn letters_out(alloc: Global, reply: Reply) -> Vec<Letter>
 
 /// How many bytes of a text are the reply to a call in which the node crashed by this fault, or a part of it in which
 /// the life ends. None where the text begins otherwise.
-fn stop_length(alloc: Global, text: &[u8], fault: NodeFault) -> Result<Option<usize>, OutOfMemory>
+fn crash_part(
+    alloc: Global,
+    text: &[u8],
+    fault: NodeFault,
+) -> Result<Option<CrashPart>, OutOfMemory>
     requires { IsStop fault }
-    ensures part { IfOk result (λ found. IfSome found (IsPartOf (acted_text (Fault fault)) text.now)) }
-    ensures stop { IfOk result (λ found. IfSome found (IsStopOf text.now)) }
+    ensures part { IfOk result (λ found. IfSome found (λ p. IsPartOf (acted_text (Fault fault)) text.now p.count)) }
+    ensures stop { IfOk result (λ found. IfSome found (IsCrashPart text.now)) }
 {
     let reply = reply_bytes(alloc, &Reply::Acted(Acted::Fault(fault)))?;
-    Ok(last_part(text, &reply))
+    let Some(count) = last_part(text, &reply) else {
+        return Ok(None);
+    };
+    let is_whole = count == reply.len();
+    Ok(Some(CrashPart { count, is_whole }))
 }
 
 /// The same where the call changed nothing: its store refused, or it lacked memory.
-fn undone_length(alloc: Global, text: &[u8]) -> Result<Option<usize>, OutOfMemory>
-    ensures { IfOk result (λ found. IfSome found (IsStopOf text.now)) }
+fn undone_part(alloc: Global, text: &[u8]) -> Result<Option<CrashPart>, OutOfMemory>
+    ensures { IfOk result (λ found. IfSome found (IsCrashPart text.now)) }
 {
-    match stop_length(alloc, text, NodeFault::StoreRefused)? {
-        Some(count) => Ok(Some(count)),
-        None => stop_length(alloc, text, NodeFault::OutOfMemory),
+    match crash_part(alloc, text, NodeFault::StoreRefused)? {
+        Some(part) => Ok(Some(part)),
+        None => crash_part(alloc, text, NodeFault::OutOfMemory),
     }
 }

@@ -1,6 +1,6 @@
 //! The letters that were sent, found by their bytes.
 
-ghost use Rattle.std.specs.Prelude.{◌≡◌, ◌∷◌, ◌++◌, [], Contains, IfOk, IsTrue, OnOk};
+ghost use Rattle.std.specs.Prelude.{◌≡◌, ◌↔◌, ◌∷◌, ◌++◌, [], Contains, IfOk, IsTrue, OnOk};
 
 use ballots::Letter;
 use letter_bytes::write_letter;
@@ -79,5 +79,17 @@ impl Sent {
             Some(found) => Ok(found.is_same(letter)),
             None => Ok(false),
         }
+    }
+
+    /// The same, by a look at each letter, so that a no is certain too.
+    pub(crate) fn holds(&self, letter: &Letter) -> bool
+        ensures { IsTrue result ↔ Contains self.now letter.now }
+    {
+        for i in 0..self.letters.len() {
+            if self.letters[i].is_same(letter) {
+                return true;
+            }
+        }
+        false
     }
 }

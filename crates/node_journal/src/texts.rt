@@ -1,7 +1,8 @@
 //! Where a text goes on.
 
-ghost use Rattle.std.specs.Prelude.{◌≡◌, ◌++◌, ◌∷◌, ◌≤◌, IfSome, MatchOption, length, take};
+ghost use Rattle.std.specs.Prelude.{◌≡◌, ◌++◌, ◌∷◌, ◌≤◌, IfSome, IsTrue, MatchOption, length, take};
 ghost use Rattle.node_journal.specs.Following.{IsPartOf};
+ghost use Rattle.node_journal.specs.Tears.{GoesOn, GoesOtherwise};
 ghost use Rattle.node_lines.specs.Input.{IsLine};
 
 /// How a text goes on behind a line's end where a life begins.
@@ -104,4 +105,24 @@ pub(crate) fn last_part(text: &[u8], reply: &[u8]) -> Option<usize>
 pub(crate) fn ends_within(text: &[u8], reply: &[u8]) -> bool {
     let count = common(text, reply);
     count > 0 && begins_life(&text[count..])
+}
+
+/// Whether a byte stands at a place of a text with which no life begins.
+pub(crate) fn goes_on(text: &[u8], place: usize) -> bool
+    ensures { IsTrue result → GoesOn text.now place }
+{
+    match text.get(place) {
+        Some(byte) => *byte != b'\n',
+        None => false,
+    }
+}
+
+/// Whether a text has another byte than a reply behind so many bytes, with which no life begins.
+pub(crate) fn goes_on_otherwise(text: &[u8], reply: &[u8], count: usize) -> bool
+    ensures { IsTrue result → GoesOtherwise text.now count reply.now count }
+{
+    match (text.get(count), reply.get(count)) {
+        (Some(byte), Some(owed)) => *byte != b'\n' && *byte != *owed,
+        _ => false,
+    }
 }

@@ -2,7 +2,7 @@
 
 ghost use Rattle.std.specs.Prelude.{◌≡◌, ◌⊎◌, IfErr, IfOk, IfSome, MatchOption};
 ghost use Rattle.ballots.specs.declared.members.Members.{Members};
-ghost use Rattle.upsched_audit.specs.Audits.{NamesJournals};
+ghost use Rattle.upsched_audit.specs.Audits.{AreHeld, NamesJournals};
 ghost use Rattle.upsched_ends.specs.declared.fault.Fault.TheVariants.{Memory, Unreadable};
 
 use ballots::{Bytes, Members};
@@ -40,4 +40,29 @@ pub fn journal_of<'a, R: Read>(
         Ok(_) => Ok(Bytes::new(bytes)),
         Err(error) => Err(Fault::of_reading(&error, path)),
     }
+}
+
+/// A reader of a journal, and the path of its file.
+#[derive(Drop)]
+pub struct JournalFile<'a, R: Read> {
+    pub path: &'a str,
+    pub file: R,
+}
+
+/// The whole journals that the files hold, one after another. The fault is that of the first one that can't be read.
+pub fn journals_of<'a, R: Read + Drop>(
+    alloc: Global,
+    files: Vec<JournalFile<'a, R>>,
+) -> Result<Vec<Bytes>, Fault<'a>>
+    ensures { IfOk result (λ journals. AreHeld (λ f. R.remaining f.file) files.entry.items journals.items) }
+{
+    let mut journals = Vec::new(alloc);
+    for held in files {
+        let JournalFile { path, mut file } = held;
+        let journal = journal_of(alloc, &mut file, path)?;
+        if journals.push(journal).is_err() {
+            return Err(Fault::Memory);
+        }
+    }
+    Ok(journals)
 }

@@ -1,4 +1,4 @@
-//! `upsched audit --members M J0 J1 J2`: whether journals of nodes that are processes are the lines of legal records.
+//! `upsched audit --members M [--counts] J0 J1 J2`: whether journals of nodes that are processes are the lines of legal records.
 //! It opens no file.
 #![tactic(auto)]
 
@@ -6,5 +6,5 @@ mod audit_run;
 mod journals;
 mod verdict_line;
 
-pub use audit_run::{audit, print_audit};
-pub use journals::{NO_JOURNALS, audited_members, journal_of};
+pub use audit_run::{Asked, audit, audit_files, print_audit};
+pub use journals::{JournalFile, NO_JOURNALS, audited_members, journal_of, journals_of};

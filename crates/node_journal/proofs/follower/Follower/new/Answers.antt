@@ -17,4 +17,5 @@ returns-clause-followed c = λ text. record {
   members = ap (λ (k : KeptView). k.members) c.in_ok-new.ensures ∙ ap (λ (w : Who). w.members) c.new-node.ensures.who;
   within = omega arith;
   written = subst (λ (es : List EntryView). Writes c.args.id c.args.members [] es Unborn) (sym (ap (λ (k : KeptView). k.entries) c.in_ok-new.ensures)) nothing;
+  torn = tt;
 }

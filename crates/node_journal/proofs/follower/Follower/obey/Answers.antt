@@ -1,5 +1,7 @@
-use Rattle.std.proofs.Common.{◌∙◌, sym, subst, arith}
+use Rattle.std.proofs.Common.{◌≡◌, ℕ, List, IfSome, ◌∙◌, refl, sym, subst, arith}
 use Rattle.node_journal.specs.Following.{Steps}
+use Rattle.node_journal.specs.Tears.{GoesOtherwise}
+use Rattle.node_journal.specs.declared.tear.Why.TheVariants.{OtherReply}
 use Rattle.node_journal.specs.declared.follower.Follower.{Follower}
 use Rattle.node_journal.specs.declared.follower.Step.TheVariants.{Did}
 use Rattle.node_journal.proofs.Steps.{obeys_in_part, obeys_whole}
@@ -16,5 +18,6 @@ pub returns : goal.returns
 returns c = λ sent comes.
     subst (λ (x : Follower). Steps c.args.text.now sent c.args.self.now (Did c.letters_out-2.result) x) (sym c.in_ok-go-2.ensures)
     (obeys_in_part c.args.text.now sent c.args.self.now c.args.line.now c.args.after.now c.requires.followed c.requires.phase c.requires.text c.requires.line
-    c.work.new.self c.args.asked c.in_ok-acted.acted c.cause_of.result c.letters_out-2.result c.deref.result.now c.written_part-count.result c.in_ok-acted.ensures c.cause_of.ensures c.requires.asks c.letters_out-2.ensures
-    (c.deref.ensures.value ∙ c.in_ok-bytes.ensures) c.written_part-count.ensures.first c.written_part-count.ensures.same comes)
+    c.work.new.self c.args.asked c.in_ok-acted.acted c.cause_of.result c.letters_out-2.result c.deref.result.now c.written_part-count.result c.why_of_reply-why.result c.entries-entries.ensures.replay (c.entries-entries.ensures.trusted (λ n. refl)) c.in_ok-acted.ensures c.cause_of.ensures c.requires.asks c.letters_out-2.ensures
+    (c.deref.ensures.value ∙ c.in_ok-bytes.ensures) c.written_part-count.ensures.first c.written_part-count.ensures.same comes
+    (subst (λ (r : List ℕ). IfSome c.why_of_reply-why.result (λ w. (w ≡ OtherReply) × GoesOtherwise c.args.after.now c.written_part-count.result r c.written_part-count.result)) (c.deref-2.ensures.value ∙ sym c.deref.ensures.value) c.why_of_reply-why.ensures))

@@ -13,11 +13,11 @@ loop-k-preserved c =
     let inside : c.loop-k.k < length c.args.self.now.followers.items = omega (arith, many, c.loop-k-test.true) in
     let here : slice_get c.args.self.now.followers.items c.loop-k.k ≡ Some c.index.result.now =
     slice_get-get_or c.args.self.now.followers.items c.loop-k.k c.index.result.now inside ∙ ap (λ (x : Follower). Some x) (sym c.index.ensures) in
-    one_further (λ (f : Follower) (journal : List ℕ). (f.place ≡ length journal) × IsReplay f.kept × IsTrue f.kept.honest) c.args.self.now.followers.items c.args.journals.now c.loop-k.k c.index.result.now c.as_slice.result.now
+    one_further (λ (_ : ℕ) (f : Follower) (journal : List ℕ). (f.place ≡ length journal) × IsReplay f.kept × IsTrue f.kept.honest) c.args.self.now.followers.items c.args.journals.now c.loop-k.k c.index.result.now c.as_slice.result.now
     here there (c.if-not-has_followed.ensures.end refl, c.if-not-has_followed.ensures.replay, c.if-not-has_followed.ensures.honest) c.loop-k.invariant
 
-pub returns : goal.returns
-returns c =
+pub returns-clause-legal : goal.returns-clause-legal
+returns-clause-legal c =
     let all : length c.args.journals.now ≤ c.loop-k.k = c.loop-k-test.false in
     lines_of c.args.self.now.members c.args.journals.now c.args.self.now.followers.items c.args.self.now.sent c.requires.followed c.requires.order
     (λ k f journal at there.

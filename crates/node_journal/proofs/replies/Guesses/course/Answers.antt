@@ -5,4 +5,4 @@ use Rattle.seats.specs.declared.acted.Acted.TheVariants.{Fault}
 use Rattle.node_journal.proofs.replies.Guesses.course.Goals as goal
 
 pub returns-then-skips-2 : goal.returns-then-skips-2
-returns-then-skips-2 c = ([], refl, (c.args.after.now, refl), (Down, tt, (acted_text (Fault Down), refl)))
+returns-then-skips-2 c = (([], refl, (c.args.after.now, refl), (Down, tt, (acted_text (Fault Down), refl))), λ no. absurd (cc (no)))
