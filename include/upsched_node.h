@@ -155,7 +155,8 @@ static inline int32_t upsched_node_learned(upsched_node *node, uint64_t place, u
 }
 
 /* Releases the outputs of the values that were learned without a gap since the last release, but for MAPs that end at a
- * minislot or before. *outputs is how many they are; they are there until the next release. It makes no write. */
+ * minislot or before. *outputs is how many they are; they are there until the next release. It makes no write, and takes
+ * no memory where nothing was learned without a gap since the last release. */
 int32_t upsched_c_node_release(upsched_node *node, uint64_t now, size_t *outputs);
 static inline int32_t upsched_node_release(upsched_node *node, uint64_t now, size_t *outputs)
 {
@@ -217,8 +218,8 @@ static inline int32_t upsched_letter_decode(const uint8_t *bytes, size_t len, up
 }
 
 /* Writes a letter. OK: the first *written of the bytes. BAD_FIELD: a field holds what it can't, a field that the kind
- * hasn't is not 0, or there are votes and it is no PROMISE. Then comes want of memory, and then NO_ROOM: *written is
- * the room wanted. A node heeds a letter only where places, ballots and votes are in order, and from its member. */
+ * hasn't is not 0, or there are votes and it is no PROMISE. Then comes NO_ROOM: *written is the room wanted. Then comes
+ * want of memory. A node heeds a letter only where places, ballots and votes are in order, and from its member. */
 int32_t upsched_c_letter_encode(const upsched_letter *letter, const upsched_vote *votes, size_t count, uint8_t *bytes,
                                 size_t room, size_t *written);
 static inline int32_t upsched_letter_encode(const upsched_letter *letter, const upsched_vote *votes, size_t count,

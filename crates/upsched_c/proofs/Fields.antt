@@ -1,5 +1,6 @@
 -- What the loops over elements and their fields rest on.
-use Rattle.std.proofs.Common.{◌≡◌, ℕ, zero, suc, ◌+◌, ◌<◌, ◌≤◌, List, [], ◌∷◌, ◌++◌, length, take, drop, set, get_or, Some, refl, ap, subst, sym, ◌∙◌, arith, slice_get}
+use Rattle.std.proofs.Common.{◌≡◌, ℕ, zero, suc, ◌+◌, ◌<◌, ◌≤◌, List, [], ◌∷◌, ◌++◌, length, take, drop, set, get_or}
+use Rattle.std.proofs.Common.{Some, refl, ap, subst, sym, ◌∙◌, arith, slice_get}
 use borrow.Author.Count.{below_more}
 use Rattle.map_body.specs.Rules.{FitsElement}
 use Rattle.upsched_c.specs.declared.structs.MapElement.{MapElement}

@@ -1,7 +1,8 @@
 -- The numbers that calls answer.
 use Rattle.std.specs.Prelude.{◌≡◌, ℕ, ◌+◌, ℤ, pos}
 use Rattle.map_body.specs.declared.fault.MapFault.{MapFault}
-use Rattle.map_body.specs.declared.fault.MapFault.TheVariants.{Short, Trailing, Expansion, OutOfOrder, NoNull, OutOfMemory, TooMany}
+use Rattle.map_body.specs.declared.fault.MapFault.TheVariants.{Short, Trailing, Expansion, OutOfOrder, NoNull}
+use Rattle.map_body.specs.declared.fault.MapFault.TheVariants.{OutOfMemory, TooMany}
 use Rattle.map_body.specs.Faults as maps
 use Rattle.modem.specs.Wants as wants
 use Rattle.row_bytes.specs.Faults as rows

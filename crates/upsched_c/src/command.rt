@@ -1,7 +1,8 @@
 //! Commands as structs that C shares.
 
 ghost use Rattle.std.specs.Prelude.{◌≡◌, option_map};
-ghost use Rattle.upsched_c.specs.Commands.{channel_value, command_value, cut_value, kind_value, phy_value, ranging_value, sending_value, settings_value};
+ghost use Rattle.upsched_c.specs.Commands.{channel_value, command_value, cut_value, kind_value, phy_value};
+ghost use Rattle.upsched_c.specs.Commands.{ranging_value, sending_value, settings_value};
 
 use flow_state::{Channel, ChannelSettings, FlowKind, Phy};
 use grant_machine::Command;

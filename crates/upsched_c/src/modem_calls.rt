@@ -3,7 +3,8 @@
 ghost use Rattle.std.specs.Prelude.{◌≡◌};
 ghost use Rattle.modem.specs.State.{new_modem};
 ghost use Rattle.upsched_c.specs.Handles.{held, Opens};
-ghost use Rattle.upsched_c.specs.Modems.{AsksModem, AsModem, HearsNoMap, HearsBody, TakesWant, TellsClock, TellsNext, TicksAt};
+ghost use Rattle.upsched_c.specs.Modems.{AsksModem, AsModem, HearsNoMap, HearsBody, TakesWant, TellsClock, TellsNext};
+ghost use Rattle.upsched_c.specs.Modems.{TicksAt};
 ghost use Rattle.upsched_c.specs.Statuses.{Answers};
 
 use crate::handle::{Handle, Held};

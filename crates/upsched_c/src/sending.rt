@@ -1,7 +1,8 @@
 //! What a modem sends, hears and does next, as C is told it.
 
 ghost use Rattle.std.specs.Prelude.{◌≡◌};
-ghost use Rattle.upsched_c.specs.Modems.{event_fields as event_fields_lem, heard_number as heard_number_lem, sending_fields as sending_fields_lem};
+ghost use Rattle.upsched_c.specs.Modems.{event_fields as event_fields_lem, heard_number as heard_number_lem};
+ghost use Rattle.upsched_c.specs.Modems.{sending_fields as sending_fields_lem};
 
 use modem::{Action, Heard, NextEvent, Sending};
 

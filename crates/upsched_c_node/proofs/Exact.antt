@@ -1,5 +1,6 @@
 -- What a call of a node says where its records are in memory.
-use Rattle.std.proofs.Common.{◌≡◌, ◌⊎◌, ⊎_elim, ℕ, ◌<◌, Bool, true, false, IsTrue, is_ok, List, [], length, Result, Ok, Err, Vec, refl, sym, ap, subst, ◌∙◌, arith}
+use Rattle.std.proofs.Common.{◌≡◌, ◌⊎◌, ⊎_elim, ℕ, ◌<◌, Bool, true, false, IsTrue, is_ok, List, [], length, Result, Ok}
+use Rattle.std.proofs.Common.{Err, Vec, refl, sym, ap, subst, ◌∙◌, arith}
 use Rattle.std.proofs.lemmas.Bool.{false≢true}
 use Rattle.std.specs.Prelude.{IfErr, IsOk, IsOkAnd}
 use Rattle.std.specs.declared.alloc.Global.{Global}

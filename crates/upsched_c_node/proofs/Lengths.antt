@@ -1,5 +1,7 @@
 -- How long the spellings of letters and votes are.
-use Rattle.std.proofs.Common.{◌≡◌, ◌∙◌, ℕ, ◌+◌, ◌<◌, ◌≤◌, List, [], ◌∷◌, ◌++◌, length, get_or, take, flat_map, refl, ap, arith}
+use Rattle.std.proofs.Common.{◌≡◌, ◌∙◌, ℕ, ◌+◌, ◌<◌, ◌≤◌, ◌≢◌, List, [], ◌∷◌, ◌++◌, length, get_or, take, flat_map}
+use Rattle.std.proofs.Common.{refl, ap}
+use Rattle.std.proofs.Common.{arith}
 use Rattle.std.proofs.lemmas.Grind.{flat_map-append}
 use Rattle.std.proofs.lemmas.List.{length-append, take_more}
 use Rattle.std.proofs.lemmas.List.Concat.{flat_map-cons}
@@ -7,7 +9,8 @@ use Rattle.std.proofs.lemmas.List.Folds.{length-flat_map-take}
 use Rattle.ballots.specs.declared.letters.Cast.{Cast}
 use Rattle.ballots.specs.declared.letters.Note.{Note}
 use Rattle.ballots.specs.declared.letters.Note.TheVariants.{Prepare, Promise, Accept, Voted, Higher, Known}
-use Rattle.letter_bytes.specs.Spelling.{fields_spelling, number, value_spelling, vote_spelling}
+use Rattle.letter_bytes.specs.Spelling.{fields_spelling, kind_byte, kind_of, number, value_spelling, vote_spelling}
+use Rattle.upsched_c_node.specs.Letters.{value_of}
 
 number-length : (n : ℕ) → length (number n) ≡ 8
 unfolding number
@@ -49,6 +52,31 @@ of_higher note b is = of_note note (Higher b) is ∙ number-length b
 
 pub of_known : (note : Note) (p : ℕ) (v : List ℕ) → note ≡ Known p v → length (fields_spelling note) ≡ 16 + length v
 of_known note p v is = of_note note (Known p v) is ∙ one_valued-length p v
+
+-- of the numbers of a kind's notes, and their values
+pub of_highers : (note : Note) → 5 ≡ kind_byte (kind_of note)
+    → length (fields_spelling note) ≡ 8 + length (value_of note)
+of_highers (Higher b) is = number-length b
+of_highers note is = absurd (omega (arith, is))
+
+pub of_prepares : (note : Note) → 1 ≡ kind_byte (kind_of note)
+    → length (fields_spelling note) ≡ 16 + length (value_of note)
+of_prepares (Prepare b p) is = two-length b p
+of_prepares note is = absurd (omega (arith, is))
+
+pub of_knowns : (note : Note) → 6 ≡ kind_byte (kind_of note)
+    → length (fields_spelling note) ≡ 16 + length (value_of note)
+of_knowns (Known p v) is = one_valued-length p v
+of_knowns note is = absurd (omega (arith, is))
+
+pub of_others : (note : Note) (kind : ℕ) → kind ≡ kind_byte (kind_of note) → kind ≢ 5 → kind ≢ 1 → kind ≢ 6
+    → length (fields_spelling note) ≡ 24 + length (value_of note)
+of_others (Promise b p votes) kind is no_higher no_prepare no_known = three-length b p (length votes)
+of_others (Accept b p v) kind is no_higher no_prepare no_known = two_valued-length b p v
+of_others (Voted b p v) kind is no_higher no_prepare no_known = two_valued-length b p v
+of_others (Prepare b p) kind is no_higher no_prepare no_known = absurd (no_prepare is)
+of_others (Higher b) kind is no_higher no_prepare no_known = absurd (no_higher is)
+of_others (Known p v) kind is no_higher no_prepare no_known = absurd (no_known is)
 
 -- of a vote
 pub of_vote : (row : ℕ × Cast) → length (vote_spelling row) ≡ 24 + length row.1.value

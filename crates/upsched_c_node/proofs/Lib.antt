@@ -3,3 +3,5 @@ pub mod Sending
 pub mod Letters
 pub mod Histories
 mod Lengths
+mod Encoding
+mod Learned

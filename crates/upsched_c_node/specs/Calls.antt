@@ -1,5 +1,6 @@
 -- What calls on a node that a handle holds do.
-use Rattle.std.specs.Prelude.{◌≡◌, ℕ, ◌<◌, ◌≤◌, nat_lt, if◌then◌else◌, List, length, slice_get, Option, Some, None, MatchOption, Result, Ok, Err}
+use Rattle.std.specs.Prelude.{◌≡◌, ℕ, ◌<◌, ◌≤◌, nat_lt, if◌then◌else◌, List, length, slice_get, Option, Some, None}
+use Rattle.std.specs.Prelude.{MatchOption, Result, Ok, Err}
 use Rattle.ballots.specs.Rows.{at}
 use Rattle.ballots.specs.declared.letters.Letter.{Letter}
 use Rattle.command_log.specs.Values.{outputs_of_values}
@@ -22,7 +23,7 @@ use Rattle.node_writes.specs.declared.write_bytes.WriteBytes.{WriteBytes}
 use Rattle.upsched_c_node.specs.Handles.{Asks}
 use Rattle.upsched_c_node.specs.Letters.{Reads, TellsBytes}
 use Rattle.upsched_c_node.specs.Rooms.{Told, told}
-use Rattle.upsched_c_node.specs.States.{MayLack, Takes}
+use Rattle.upsched_c_node.specs.States.{HasReleasedAll, MayLack, Takes}
 use Rattle.told_writes.specs.Writes.{HandsOut}
 
 -- where a call tells its write, and how many letters it sent
@@ -83,13 +84,14 @@ TellsValue q k old after new statuses.NoRoom =
 TellsValue q k old after new statuses.Absent = (at k.node.view.tally.learned q ≡ None) × (after ≡ k) × (new ≡ old)
 TellsValue q k old after new _ = ⊥
 
--- a node releases what it has not released yet, and that is kept, and how much it is is told
+-- a node releases what it has not released yet, and that is kept, and how much it is is told; memory is wanted only
+-- where something is left to be released
 abbrev pub Releases : ℕ → Held → ℕ → Held → ℕ → Status → Type 0
 Releases now k old after new statuses.Done =
     (after.node ≡ record k.node { view = released_all k.node.view }) × (after.letters ≡ k.letters)
     × (after.outputs.items ≡ released now k.node.view.cursor (outputs_of_values (gapless k.node.view)))
     × (new ≡ length after.outputs.items)
-Releases now k old after new statuses.OutOfMemory = (after ≡ k) × (new ≡ old)
+Releases now k old after new statuses.OutOfMemory = ¬ HasReleasedAll k.node × (after ≡ k) × (new ≡ old)
 Releases now k old after new _ = ⊥
 
 -- where an output is told: its place in the log, its fields, and room for the body of a MAP

@@ -1,5 +1,6 @@
 -- Letters as structs.
-use Rattle.std.specs.Prelude.{◌≡◌, ◌⊎◌, ℕ, ◌<◌, ◌≤◌, ◌^◌, nat_le, ◌&&◌, if◌then◌else◌, List, [], length, map, take, drop, All, Option, Some, None, IsSome, Result, Ok, Err}
+use Rattle.std.specs.Prelude.{◌≡◌, ◌⊎◌, ℕ, ◌<◌, ◌≤◌, ◌^◌, nat_le, ◌&&◌, if◌then◌else◌, List, [], length, map, take}
+use Rattle.std.specs.Prelude.{drop, All, Option, Some, None, IsSome, Result, Ok, Err}
 use Rattle.ballots.specs.Ballots.{IsBallot}
 use Rattle.ballots.specs.Limits.{IsValue, longest_value}
 use Rattle.ballots.specs.declared.letters.Cast.{Cast}
@@ -7,7 +8,8 @@ use Rattle.ballots.specs.declared.letters.Letter.{Letter}
 use Rattle.ballots.specs.declared.letters.Note.{Note}
 use Rattle.ballots.specs.declared.letters.Note.TheVariants.{Prepare, Promise, Accept, Voted, Higher, Known}
 use Rattle.letter_bytes.specs.Reading.{TakesMemory, is_ballot}
-use Rattle.letter_bytes.specs.Spelling.{FitsFront, FitsLetter, Spells, SpellsNone, kind_byte, kind_of, spelling, votes_reported}
+use Rattle.letter_bytes.specs.Spelling.{FitsFront, FitsLetter, Spells, SpellsNone, kind_byte, kind_of, spelling}
+use Rattle.letter_bytes.specs.Spelling.{votes_reported}
 use Rattle.upsched_c_parts.specs.Fronts.{over_front}
 use Rattle.upsched_c_node.specs.Rooms.{Told, told}
 use Rattle.upsched_c_node.specs.declared.letter_fields.LetterFields.{LetterFields}
@@ -145,10 +147,7 @@ TellsBytes l old new statuses.NoRoom = FitsLetter l × (length old.room < length
 TellsBytes l old new statuses.OutOfMemory = ((length (spelling l) ≤ length old.room) ⊎ (2 ^ 64 ≤ length (spelling l))) × (new ≡ old)
 TellsBytes l old new _ = ⊥
 
--- fields are written as the bytes of the letter whose they are
+-- fields are written as the bytes of the letter whose they are, and else nothing changes
 abbrev pub Encodes : LetterFields → List VoteFields → Told → Told → Status → Type 0
-Encodes f votes old new statuses.Done = (l : Letter) × AreOf f votes l × TellsBytes l old new statuses.Done
-Encodes f votes old new statuses.NoRoom = (l : Letter) × AreOf f votes l × TellsBytes l old new statuses.NoRoom
 Encodes f votes old new statuses.BadField = ¬ HasLetter f votes × (new ≡ old)
-Encodes f votes old new statuses.OutOfMemory = Fits f votes × (new ≡ old)
-Encodes f votes old new _ = ⊥
+Encodes f votes old new status = (l : Letter) × FitsFront l × AreOf f votes l × TellsBytes l old new status

@@ -1,5 +1,6 @@
 -- What opening a handle does.
-use Rattle.std.specs.Prelude.{◌≡◌, ◌⊎◌, ◌==◌, if◌then◌else◌, Bool, true, false, ℕ, ◌<◌, List, [], MatchOption, Result, Ok, Err, Box}
+use Rattle.std.specs.Prelude.{◌≡◌, ◌⊎◌, ◌==◌, if◌then◌else◌, Bool, true, false, ℕ, ◌<◌, List, [], MatchOption, Result}
+use Rattle.std.specs.Prelude.{Ok, Err, Box}
 use Rattle.std.specs.declared.alloc.Global.{Global}
 use Rattle.acceptor.specs.Content.{Content, no_content}
 use Rattle.upsched_c_node.specs.declared.handle.Handle.{Handle}

@@ -1,5 +1,5 @@
 -- A node whose records are in memory, and what its calls do to it.
-use Rattle.std.specs.Prelude.{◌≡◌, ◌≢◌, ℕ, IsTrue, List, [], Result, Ok, Err, Vec}
+use Rattle.std.specs.Prelude.{◌≡◌, ◌≢◌, ℕ, ◌≤◌, IsTrue, List, [], length, Result, Ok, Err, Vec}
 use Rattle.std.specs.declared.alloc.Global.{Global}
 use Rattle.ballots.specs.Members.{member_count}
 use Rattle.ballots.specs.declared.letters.Letter.{Letter}
@@ -9,10 +9,11 @@ use Rattle.node.specs.Calls.Cause.{Receive, Lead, Offer, Tell}
 use Rattle.node.specs.Sched.{view_over}
 use Rattle.node.specs.Step.{Outcome, is_heeded, letters_told}
 use Rattle.node.specs.Releases.{released_all}
-use Rattle.node.specs.View.{started, gapless}
+use Rattle.node.specs.View.{View, started, gapless}
 use Rattle.node.specs.declared.parts.Parts.{Parts}
 use Rattle.std.specs.declared.alloc.AllocError.{AllocError}
 use Rattle.command_log.specs.Values.{outputs_of_values}
+use Rattle.command_log.specs.View.{AreRows}
 use Rattle.map_release.specs.Released.{released}
 use Rattle.map_release.specs.declared.numbered.Numbered.{Numbered}
 use Rattle.proposer.specs.declared.fault.NodeFault.{NodeFault as Fault}
@@ -43,10 +44,20 @@ Answered n cause (Ok letters) after = (o : Outcome) × Takes n cause (Ok o) × (
 Answered n cause (Err Fault.OutOfMemory) after = MayLack n cause × (after ≡ n)
 Answered n cause (Err declined) after = Takes n cause (Err declined) × (after ≡ n)
 
--- the same of a release of outputs, which only memory stops
+-- so many places were released, which are places that were learned without a gap
+pub record HasReleased (count : ℕ) (view : View) : Type 0 where
+  pub rows : AreRows 1 view.tally.learned
+  pub cursor : view.cursor ≡ count
+  pub few : count ≤ length (gapless view)
+
+-- all that was learned without a gap is released
+abbrev pub HasReleasedAll : NodeState → Type 0
+HasReleasedAll n = n.view.cursor ≡ length (gapless n.view)
+
+-- the same of a release of outputs, which only memory stops, and only where something is left to be released
 abbrev pub Released : NodeState → (now : ℕ) → Result (List Numbered) AllocError → NodeState → Type 0
 Released n now (Ok outputs) after = (outputs ≡ released now n.view.cursor (outputs_of_values (gapless n.view))) × (after ≡ record n { view = released_all n.view })
-Released n now (Err _) after = after ≡ n
+Released n now (Err _) after = ¬ HasReleasedAll n × (after ≡ n)
 
 -- the outputs of a release that was answered
 abbrev pub outputs_of : Result (Vec Numbered Global) AllocError → Result (List Numbered) AllocError

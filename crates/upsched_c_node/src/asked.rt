@@ -3,7 +3,8 @@
 ghost use Rattle.std.specs.Prelude.{◌≡◌, IsTrue, ◌↔◌, length};
 ghost use Rattle.upsched_c_node.specs.declared.status.Status.TheVariants.{Done};
 ghost use Rattle.node.specs.Calls.Cause.{Receive, Lead, Offer, Tell};
-ghost use Rattle.upsched_c_node.specs.Calls.{Receives, Releases, Sends, Tells, TellsLetter, TellsOutput, TellsValue, sent, status_of, written};
+ghost use Rattle.upsched_c_node.specs.Calls.{Receives, Releases, Sends, Tells, TellsLetter, TellsOutput, TellsValue};
+ghost use Rattle.upsched_c_node.specs.Calls.{sent, status_of, written};
 ghost use Rattle.upsched_c_node.specs.Rooms.{told};
 ghost use Rattle.upsched_c_parts.specs.Outputs.{FitsRoom};
 
@@ -166,10 +167,10 @@ pub(crate) fn put_value(held: &Held, place: u64, room: &mut [u8], count: &mut us
     Status::Done
 }
 
-pub(crate) fn release(held: &mut Held, now: u64, count: &mut usize) -> Status
+pub(crate) fn release(alloc: Global, held: &mut Held, now: u64, count: &mut usize) -> Status
     ensures { Releases now held.old count.old held.new count.new result }
 {
-    let Ok(outputs) = held.node.release(now) else {
+    let Ok(outputs) = held.node.release(alloc, now) else {
         return Status::OutOfMemory;
     };
     *count = outputs.len();

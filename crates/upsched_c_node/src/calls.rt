@@ -2,7 +2,8 @@
 
 ghost use Rattle.std.specs.Prelude.{◌≡◌};
 ghost use Rattle.node.specs.Calls.Cause.{Lead, Offer};
-ghost use Rattle.upsched_c_node.specs.Calls.{Receives, ReceivesBytes, Releases, Sends, Tells, TellsLetter, TellsOutput, TellsValue, node_of, sent, written};
+ghost use Rattle.upsched_c_node.specs.Calls.{Receives, ReceivesBytes, Releases, Sends, Tells, TellsLetter, TellsOutput};
+ghost use Rattle.upsched_c_node.specs.Calls.{TellsValue, node_of, sent, written};
 ghost use Rattle.upsched_c_node.specs.Letters.{Decodes, Encodes, fields_at};
 ghost use Rattle.upsched_c_node.specs.Rooms.{told};
 ghost use Rattle.upsched_c_node.specs.Handles.{Asks};
@@ -212,12 +213,13 @@ fn release_by(alloc: Global, handle: &mut Handle, now: u64, count: &mut usize) -
     let Some(mut held) = handle.take(alloc) else {
         return handle.without_node();
     };
-    let status = release(&mut held, now, count);
+    let status = release(alloc, &mut held, now, count);
     handle.put(held);
     status
 }
 
-/// The node releases its outputs, but for MAPs that end at a minislot or before, and how many they are is told.
+/// The node releases its outputs, but for MAPs that end at a minislot or before, and how many they are is told. Where all
+/// that was learned without a gap is released, it is done without memory.
 #[unsafe(no_mangle)]
 pub extern "C" fn upsched_c_node_release(
     alloc: Global,

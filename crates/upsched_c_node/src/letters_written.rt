@@ -3,10 +3,11 @@
 ghost use Rattle.std.specs.Prelude.{◌≡◌, ◌≤◌, ◌↔◌, All, IfOk, IsSome, IsTrue, length, map, take, Some};
 ghost use Rattle.ballots.specs.Ballots.{IsBallot};
 ghost use Rattle.ballots.specs.Limits.{longest_value};
-ghost use Rattle.letter_bytes.specs.Spelling.{votes_reported};
+ghost use Rattle.letter_bytes.specs.Spelling.{spelling, votes_reported};
 ghost use Rattle.upsched_c_node.specs.Letters.{AreOf, Encodes, Fits, FitsKind, IsNote, TellsBytes, vote_of};
 ghost use Rattle.upsched_c_node.specs.Rooms.{told};
 
+use crate::encoded_length::encoded_length;
 use crate::letter_fields::{LetterFields, VoteFields};
 use crate::letter_length::letter_length;
 use crate::status::Status;
@@ -143,6 +144,20 @@ fn letter_of(
     })
 }
 
+/// Writes a letter over the front of a room that is enough for it.
+fn put_letter(alloc: Global, letter: &Letter, room: &mut [u8], count: &mut usize) -> Status
+    requires { length (spelling letter.now) ≤ length room.old }
+    ensures { TellsBytes letter.now (told room.old count.old) (told room.new count.new) result }
+{
+    let mut bytes = Vec::new(alloc);
+    if write_letter(letter, &mut bytes).is_err() {
+        return Status::OutOfMemory;
+    }
+    *count = bytes.len();
+    put_front(&bytes, room);
+    Status::Done
+}
+
 /// Writes a letter over the front of the room for it. It takes no memory where the room is too small.
 pub fn write_out(alloc: Global, letter: &Letter, room: &mut [u8], count: &mut usize) -> Status
     ensures { TellsBytes letter.now (told room.old count.old) (told room.new count.new) result }
@@ -154,16 +169,10 @@ pub fn write_out(alloc: Global, letter: &Letter, room: &mut [u8], count: &mut us
         *count = length;
         return Status::NoRoom;
     }
-    let mut bytes = Vec::new(alloc);
-    if write_letter(letter, &mut bytes).is_err() {
-        return Status::OutOfMemory;
-    }
-    *count = bytes.len();
-    put_front(&bytes, room);
-    Status::Done
+    put_letter(alloc, letter, room, count)
 }
 
-/// Writes the letter of these fields and votes.
+/// Writes the letter of these fields and votes. It takes no memory where the room is too small.
 pub fn write_fields(
     alloc: Global,
     fields: &LetterFields,
@@ -176,8 +185,13 @@ pub fn write_fields(
     if !fit(fields, votes) {
         return Status::BadField;
     }
+    let wanted = encoded_length(fields, votes);
+    if room.len() < wanted {
+        *count = wanted;
+        return Status::NoRoom;
+    }
     match letter_of(alloc, fields, votes) {
-        Ok(letter) => write_out(alloc, &letter, room, count),
+        Ok(letter) => put_letter(alloc, &letter, room, count),
         Err(_) => Status::OutOfMemory,
     }
 }

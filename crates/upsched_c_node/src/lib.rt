@@ -4,6 +4,7 @@
 
 pub(crate) mod asked;
 pub mod calls;
+mod encoded_length;
 pub mod handle;
 pub mod laws;
 pub mod letter_fields;

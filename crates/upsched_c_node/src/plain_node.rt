@@ -1,34 +1,64 @@
 //! A node whose records are in memory: of each call it is known what it leaves.
 
-ghost use Rattle.std.specs.Prelude.{◌≡◌, ◌<◌, Err, IfOk, option_copied};
+ghost use Rattle.std.specs.Prelude.{◌≡◌, ◌<◌, ◌≤◌, Err, IfOk, length, option_copied};
 ghost use Rattle.ballots.specs.Members.{member_count};
 ghost use Rattle.ballots.specs.Rows.{at};
 ghost use Rattle.node.specs.Calls.{answer};
 ghost use Rattle.node.specs.Calls.Cause.{Receive, Lead, Offer, Tell};
+ghost use Rattle.command_log.specs.Values.{values_from};
+ghost use Rattle.command_log.specs.View.{AreRows};
 ghost use Rattle.upsched_c_node.specs.States.{Answered, Released, outputs_of, started_as};
 
-use acceptor::PlainRecords;
-use ballots::{Bytes, Letter, Members, NodeId};
+use acceptor::{PlainRecords, Records};
+use ballots::{Bytes, Letter, MOST_PLACES, Members, NodeId, Place};
 use map_release::Numbered;
 use node::{Node, NodeFault, SchedNode};
 use std::alloc::{AllocError, Global};
 use std::marker::Model;
 
-/// A member over records in memory. Nothing fails there but for want of memory, so that it is always up.
+/// A member over records in memory, and of how many places it has released what it learned. Nothing fails there but for
+/// want of memory, so that it is always up.
 #[derive(Drop)]
 pub struct PlainNode {
     node: SchedNode<PlainRecords>,
+    released: u64,
 }
 
 impl Model for PlainNode {
     ghost use Rattle.std.specs.Prelude.{◌≡◌, ◌<◌, false};
-    ghost use Rattle.upsched_c_node.specs.States.{NodeState, state_of};
+    ghost use Rattle.upsched_c_node.specs.States.{NodeState, HasReleased, state_of};
 
     ghost Value = { NodeState };
 
     ghost view = { λ n. state_of n.node.parts };
 
-    ghost invariant = { λ n. (n.node.parts.is_down ≡ false) × ((state_of n.node.parts).id < (state_of n.node.parts).members) };
+    ghost invariant = { λ n. (n.node.parts.is_down ≡ false) × ((state_of n.node.parts).id < (state_of n.node.parts).members)
+        × HasReleased n.released (state_of n.node.parts).view };
+}
+
+/// The same records. What they hold as learned stands at places of the log.
+fn in_order(mut records: PlainRecords) -> Result<PlainRecords, AllocError>
+    ensures same { IfOk result (λ same. same ≡ records) }
+    ensures rows { IfOk result (λ same. AreRows 1 same.learned) }
+{
+    match records.votes_from(Place::new(MOST_PLACES).unwrap()) {
+        Ok(_) => Ok(records),
+        Err(_) => Err(AllocError),
+    }
+}
+
+/// How many places from the first on are learned without a gap. So many are, and aren't looked at.
+fn gapless_len(node: &SchedNode<PlainRecords>, known: u64) -> u64
+    requires rows { AreRows 1 node.now.parts.knowledge.tally.learned }
+    requires known { known ≤ length (values_from 1 node.now.parts.knowledge.tally.learned) }
+    ensures { result ≡ length (values_from 1 node.now.parts.knowledge.tally.learned) }
+{
+    for len in known..MOST_PLACES {
+        if node.learned(len + 1).is_none() {
+            return len;
+        }
+    }
+    MOST_PLACES
 }
 
 impl PlainNode {
@@ -42,9 +72,9 @@ impl PlainNode {
         requires { id < member_count members }
         ensures { IfOk result (λ n. n ≡ started_as id (member_count members) records) }
     {
-        let mut node = SchedNode::new(alloc, id, members, records);
+        let mut node = SchedNode::new(alloc, id, members, in_order(records)?);
         match node.restart() {
-            Ok(()) => Ok(PlainNode { node }),
+            Ok(()) => Ok(PlainNode { node, released: 0 }),
             Err(_) => Err(AllocError),
         }
     }
@@ -101,12 +131,19 @@ impl PlainNode {
         self.node.tell(to, place)
     }
 
-    /// It releases outputs, without the MAPs that end at `now` or before.
-    pub fn release(&mut self, now: u64) -> Result<Vec<Numbered>, AllocError>
+    /// It releases outputs, without the MAPs that end at `now` or before. Where it has released all, it takes no memory.
+    pub fn release(&mut self, alloc: Global, now: u64) -> Result<Vec<Numbered>, AllocError>
         ensures { Released self.old now (outputs_of result) self.new }
     {
+        let all = gapless_len(&self.node, self.released);
+        if all == self.released {
+            return Ok(Vec::new(alloc));
+        }
         match self.node.release(now) {
-            Ok(outputs) => Ok(outputs),
+            Ok(outputs) => {
+                self.released = all;
+                Ok(outputs)
+            }
             Err(_) => Err(AllocError),
         }
     }

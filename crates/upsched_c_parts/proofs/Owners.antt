@@ -11,7 +11,11 @@ use Rattle.std.specs.Prelude.{IsSome}
 use Rattle.std.specs.declared.alloc.Global.{Global}
 use Rattle.std.specs.contracts.impls.GlobalAllocator.TheImpl.{ghosts}
 use Rattle.upsched_c_parts.specs.Owned.{owned_if}
-use Rattle.upsched_c_parts.proofs.Steps.{◌≡◌, ℕ, List, [], ◌∷◌, ◌++◌, refl, sym, subst, box_owns, Option, None, Some, Ura, bare, Val, vptr, vstruct, vcons, vnil, of_list, Fml, feq, fex, fsep, never, fst∗, Logic, sem, Item, Goal, Seq, Step, step, ‵, ◌$◌, drop, fsplit, fjoin, fpick, fpack, feq_i, feq_l, RawPtr, lone, RattleType, Valss, flat, owns, Ptr, block_ptr, null_ptr, ptr_val, in_a_block, nothing}
+use Rattle.upsched_c_parts.proofs.Steps.{◌≡◌, ℕ, List, [], ◌∷◌, ◌++◌, refl, sym, subst, box_owns, Option, None, Some}
+use Rattle.upsched_c_parts.proofs.Steps.{Ura, bare, Val, vptr, vstruct, vcons, vnil, of_list, Fml, feq, fex, fsep}
+use Rattle.upsched_c_parts.proofs.Steps.{never, fst∗, Logic, sem, Item, Goal, Seq, Step, step, ‵, ◌$◌, drop, fsplit}
+use Rattle.upsched_c_parts.proofs.Steps.{fjoin, fpick, fpack, feq_i, feq_l, RawPtr, lone, RattleType, Valss, flat, owns}
+use Rattle.upsched_c_parts.proofs.Steps.{Ptr, block_ptr, null_ptr, ptr_val, in_a_block, nothing}
 
 abbrev pub alone : Val → Val
 alone v = vstruct (vcons v vnil)

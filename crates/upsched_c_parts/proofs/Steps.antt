@@ -14,7 +14,8 @@ pub use base.Fml.{Fml, ftrue, feq, fex, flft, fsep}
 pub use base.Logic.{SProp, ent, emp, never, id⊢, fst∗}
 pub use prog.Wp.{WpFn}
 pub use types.Logic.{Logic, sem}
-pub use types.Kit.{Item, Goal, Seq, Step, step, ‵, raw, ◌⊛◌, some, later, ◌$◌, ◌∵◌, !, qed, by, move, keep, drop, split, split3, join, pick, fsplit, fjoin, fpick, fpack, suffices, use0, use1, await, rewrite, feq_i, feq_l}
+pub use types.Kit.{Item, Goal, Seq, Step, step, ‵, raw, ◌⊛◌, some, later, ◌$◌, ◌∵◌, !, qed, by, move, keep, drop, split}
+pub use types.Kit.{split3, join, pick, fsplit, fjoin, fpick, fpack, suffices, use0, use1, await, rewrite, feq_i, feq_l}
 pub use types.Run.{stop, fld, of_opd, lit, no_more, and_then, returns, enter}
 pub use types.ByLocal.{alloc_all, pass_all, free_all, look_at, get, get_in, sets}
 pub use types.Part.{agg, sub, whole}

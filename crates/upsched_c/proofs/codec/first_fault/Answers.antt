@@ -7,7 +7,8 @@ use Rattle.upsched_c.specs.declared.structs.MapElement.{MapElement}
 use Rattle.upsched_c.specs.Structs.{element_value}
 use Rattle.upsched_c.proofs.Fields.{element_at}
 use Rattle.upsched_c.proofs.codec.first_fault.Goals as goal
-use Rattle.upsched_c.proofs.codec.first_fault.Goals.{else-not-null_seen-via-then-not-null_seen+else-element-last, else-not-null_seen-via-else-not-null_seen}
+use Rattle.upsched_c.proofs.codec.first_fault.Goals.{else-not-null_seen-via-then-not-null_seen+else-element-last}
+use Rattle.upsched_c.proofs.codec.first_fault.Goals.{else-not-null_seen-via-else-not-null_seen}
 use Rattle.upsched_c.proofs.codec.first_fault.Goals.{then-element-get-2, else-element-get-2}
 
 abbrev none : MapElement

@@ -11,7 +11,13 @@ use Rattle.upsched_c.specs.contracts.handle.Owner.into_loose.{ended, clauses}
 use Rattle.upsched_c.specs.contracts.handle.Owner.into_loose.Key.{name as #self}
 use Rattle.upsched_c.proofs.handle.Owner.into_loose.Statement.{statement}
 use Rattle.upsched_c.proofs.handle.Owner.into_loose.Code as code
-use Rattle.upsched_c_parts.proofs.Steps.{◌≡◌, List, [], ◌∷◌, ◌++◌, refl, sym, subst, Fn, Val, vptr, SProp, ent, emp, id⊢, WpFn, ‵, raw, ◌⊛◌, ◌$◌, ◌∵◌, !, qed, by, move, keep, split, fsplit, fjoin, suffices, use0, stop, fld, of_opd, no_more, and_then, returns, enter, alloc_all, pass_all, free_all, look_at, get, get_in, sets, agg, sub, whole, fact, fact_i, tables, RattleType, owns, types_at, plain, block_ptr, nothing, heard, alive, Stays, stay_dropped, walk_of, Goes-blank, handle_tells, proved_at, leaves, Some}
+use Rattle.upsched_c_parts.proofs.Steps.{◌≡◌, List, [], ◌∷◌, ◌++◌, refl, sym, subst, Fn, Val, vptr, SProp, ent, emp}
+use Rattle.upsched_c_parts.proofs.Steps.{id⊢, WpFn, ‵, raw, ◌⊛◌, ◌$◌, ◌∵◌, !, qed, by, move, keep, split, fsplit, fjoin}
+use Rattle.upsched_c_parts.proofs.Steps.{suffices, use0, stop, fld, of_opd, no_more, and_then, returns, enter}
+use Rattle.upsched_c_parts.proofs.Steps.{alloc_all, pass_all, free_all, look_at, get, get_in, sets, agg, sub, whole}
+use Rattle.upsched_c_parts.proofs.Steps.{fact, fact_i, tables, RattleType, owns, types_at, plain, block_ptr, nothing}
+use Rattle.upsched_c_parts.proofs.Steps.{heard, alive, Stays, stay_dropped, walk_of, Goes-blank, handle_tells}
+use Rattle.upsched_c_parts.proofs.Steps.{proved_at, leaves, Some}
 
 pub into_loose_spec : {M : Type 1} → statement M
 into_loose_spec 𝓤 𝓛 𝓜 𝓡 wired =

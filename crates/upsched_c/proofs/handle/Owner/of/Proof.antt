@@ -11,7 +11,13 @@ use Rattle.upsched_c.specs.contracts.handle.Owner.of.{ended, clauses}
 use Rattle.upsched_c.specs.contracts.handle.Owner.of.Key.{name as #self}
 use Rattle.upsched_c.proofs.handle.Owner.of.Statement.{statement}
 use Rattle.upsched_c.proofs.handle.Owner.of.Code as code
-use Rattle.upsched_c_parts.proofs.Steps.{◌≡◌, List, [], ◌∷◌, ◌++◌, refl, sym, subst, Fn, Val, vptr, SProp, ent, emp, id⊢, ftrue, WpFn, ‵, raw, ◌⊛◌, ◌$◌, ◌∵◌, !, qed, by, move, keep, drop, split, fsplit, fjoin, suffices, use0, stop, fld, of_opd, no_more, and_then, returns, enter, alloc_all, pass_all, free_all, look_at, get, get_in, sets, agg, sub, whole, fact, fact_i, tables, RattleType, owns, types_at, plain, block_ptr, nothing, alive, Stays, stay_dropped, walk_of, Goes-blank, proved_at, leaves, Option, Some}
+use Rattle.upsched_c_parts.proofs.Steps.{◌≡◌, List, [], ◌∷◌, ◌++◌, refl, sym, subst, Fn, Val, vptr, SProp, ent, emp}
+use Rattle.upsched_c_parts.proofs.Steps.{id⊢, ftrue, WpFn, ‵, raw, ◌⊛◌, ◌$◌, ◌∵◌, !, qed, by, move, keep, drop, split}
+use Rattle.upsched_c_parts.proofs.Steps.{fsplit, fjoin, suffices, use0, stop, fld, of_opd, no_more, and_then, returns}
+use Rattle.upsched_c_parts.proofs.Steps.{enter, alloc_all, pass_all, free_all, look_at, get, get_in, sets, agg, sub}
+use Rattle.upsched_c_parts.proofs.Steps.{whole, fact, fact_i, tables, RattleType, owns, types_at, plain, block_ptr}
+use Rattle.upsched_c_parts.proofs.Steps.{nothing, alive, Stays, stay_dropped, walk_of, Goes-blank, proved_at, leaves}
+use Rattle.upsched_c_parts.proofs.Steps.{Option, Some}
 
 pub of_spec : {M : Type 1} → statement M
 of_spec 𝓤 𝓛 𝓜 𝓡 wired =

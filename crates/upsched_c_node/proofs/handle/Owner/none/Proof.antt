@@ -6,7 +6,12 @@ use Rattle.upsched_c_node.specs.contracts.handle.Owner.none.{ended, clauses}
 use Rattle.upsched_c_node.specs.contracts.handle.Owner.none.Key.{name as #self}
 use Rattle.upsched_c_node.proofs.handle.Owner.none.Statement.{statement}
 use Rattle.upsched_c_node.proofs.handle.Owner.none.Code as code
-use Rattle.upsched_c_parts.proofs.Steps.{◌≡◌, [], ◌∷◌, refl, lit<, Fn, Val, SProp, emp, ftrue, ‵, raw, ◌⊛◌, ◌$◌, ◌∵◌, !, qed, by, move, keep, drop, split, use0, lit, no_more, and_then, returns, enter, alloc_all, pass_all, free_all, look_at, sets, agg, fact, fact_i, tables, owns, types_at, null_ptr, ptr_val, nothing, alive, Stays, walk_of, proved_at, leaves, Option, None}
+use Rattle.upsched_c_parts.proofs.Steps.{◌≡◌, [], ◌∷◌, refl, lit<, Fn, Val, SProp, emp, ftrue, ‵, raw, ◌⊛◌, ◌$◌, ◌∵◌}
+use Rattle.upsched_c_parts.proofs.Steps.{ !, qed, by, move, keep, drop, split, use0, lit, no_more, and_then, returns}
+use Rattle.upsched_c_parts.proofs.Steps.{enter}
+use Rattle.upsched_c_parts.proofs.Steps.{alloc_all, pass_all, free_all, look_at, sets, agg, fact, fact_i, tables, owns}
+use Rattle.upsched_c_parts.proofs.Steps.{types_at, null_ptr, ptr_val, nothing, alive, Stays, walk_of, proved_at, leaves}
+use Rattle.upsched_c_parts.proofs.Steps.{Option, None}
 
 pub none_spec : {M : Type 1} → statement M
 none_spec 𝓤 𝓛 𝓜 𝓡 wired =
