@@ -1,5 +1,6 @@
 -- What is said as JSON has no fraction, and hardly nests. Crates above cite it of what they say more.
-use Rattle.std.proofs.Common.{◌≡◌, ℕ, suc, ◌≤◌, max, ◌||◌, Bool, true, false, List, [], ◌∷◌, codes, decimal, inl, inr, if◌then◌else◌, refl, arith}
+use Rattle.std.proofs.Common.{◌≡◌, ℕ, suc, ◌≤◌, max, ◌||◌, Bool, true, false, List, [], ◌∷◌, codes, decimal, inl, inr}
+use Rattle.std.proofs.Common.{if◌then◌else◌, refl, arith}
 use Rattle.std.proofs.lemmas.Bool.{true≢false}
 use Rattle.std.proofs.Math.Nat.{max-le, le-max_left, le-max_right}
 use Rattle.std.specs.Ordering.{nat_cmp, match_ordering}
@@ -12,7 +13,8 @@ use Rattle.map_body.specs.Body.{Body}
 use Rattle.map_body.specs.Intervals.{is_null}
 use Rattle.grant_machine.specs.declared.output.Output.{Output}
 use Rattle.grant_machine.specs.declared.output.Output.TheVariants.{Nothing, ChannelSet, Assigned, Map, Refused}
-use Rattle.serde_json.specs.Data.{Data, null, number, unsigned, string, object, Members, no_members, member, put, depth, items_depth, members_depth}
+use Rattle.serde_json.specs.Data.{Data, null, number, unsigned, string, object, Members, no_members, member, put, depth}
+use Rattle.serde_json.specs.Data.{items_depth, members_depth}
 use Rattle.serde_json.specs.View.{items_of}
 use Rattle.serde_json.specs.Written.{has_float, items_have_float, members_have_float}
 use Rattle.json_outputs.specs.Names.{refusal_name}

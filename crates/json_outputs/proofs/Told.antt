@@ -1,5 +1,6 @@
 -- What is said of outputs, from what each step left.
-use Rattle.std.proofs.Common.{◌≡◌, ◌≢◌, ℕ, List, codes, Result, Ok, Err, IfOk, OnOk, inr, sym, ap, ◌∙◌, subst, string_bytes, String, BTreeMap, Global}
+use Rattle.std.proofs.Common.{◌≡◌, ◌≢◌, ℕ, List, codes, Result, Ok, Err, IfOk, OnOk, inr, sym, ap, ◌∙◌, subst}
+use Rattle.std.proofs.Common.{string_bytes, String, BTreeMap, Global}
 use Rattle.map_body.specs.Body.{Body}
 use Rattle.map_body.specs.Layout.{IsBody}
 use Rattle.map_body.specs.declared.fault.MapFault.{MapFault}

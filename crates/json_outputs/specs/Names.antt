@@ -1,6 +1,7 @@
 -- The names of refusals.
 use Rattle.std.specs.Prelude.{ℕ, ◌==◌, if◌then◌else◌, List, [], codes}
-use Rattle.flow_state.specs.declared.refusal.Refusal.TheVariants.{NoChannel, ChannelThere, NoFlow, SidsSpent, Busy, OldRequest, BadValue, OutOfMemory}
+use Rattle.flow_state.specs.declared.refusal.Refusal.TheVariants.{NoChannel, ChannelThere, NoFlow, SidsSpent, Busy}
+use Rattle.flow_state.specs.declared.refusal.Refusal.TheVariants.{OldRequest, BadValue, OutOfMemory}
 use Rattle.flow_state.specs.Refusals.{refusal_number}
 
 -- the refusal that a number stands for; empty, where it stands for none

@@ -15,11 +15,18 @@ abbrev pub TellsElements : List ℕ → Data → Type 0
 TellsElements bytes d =
     ((map : Body) × IsBody bytes map × (d ≡ elements_data map.elements)) ⊎ (((map : Body) → ¬ IsBody bytes map) × (d ≡ null))
 
--- the fields of a MAP beside others, but for its elements
-abbrev pub with_map : (ch start len : ℕ) → List ℕ → Members → Members
-with_map ch start len bytes ms =
-    with_text (codes "bytes") (encode_lower bytes) (with_number (codes "len") len (with_time (codes "start") start
-    (with_number (codes "channel") ch (with_text (codes "output") (codes "map") ms))))
+-- a MAP's channel and minislots, beside other fields
+abbrev pub with_span : (ch start len : ℕ) → Members → Members
+with_span ch start len ms =
+    with_number (codes "len") len (with_time (codes "start") start (with_number (codes "channel") ch (with_text (codes "output") (codes "map") ms)))
+
+-- its bytes, beside other fields
+abbrev pub with_bytes : List ℕ → Members → Members
+with_bytes bytes ms = with_text (codes "bytes") (encode_lower bytes) ms
+
+-- its bytes and elements, beside other fields
+abbrev pub TellsBody : List ℕ → Members → Members → Type 0
+TellsBody bytes old new = (elements : Data) × TellsElements bytes elements × (new ≡ put (codes "elements") elements (with_bytes bytes old))
 
 -- the fields of an output, beside others
 abbrev pub TellsOutput : Output → Members → Members → Type 0
@@ -29,7 +36,7 @@ TellsOutput (ChannelSet ch ucd) old new =
 TellsOutput (Assigned modem ch sid first last) old new =
     new ≡ with_time (codes "last") last (with_time (codes "first") first (with_number (codes "sid") sid
     (with_number (codes "channel") ch (with_number (codes "modem") modem (with_text (codes "output") (codes "assigned") old)))))
-TellsOutput (Map ch start len bytes) old new = (elements : Data) × TellsElements bytes elements × (new ≡ put (codes "elements") elements (with_map ch start len bytes old))
+TellsOutput (Map ch start len bytes) old new = TellsBody bytes (with_span ch start len old) new
 TellsOutput (Refused number) old new =
     new ≡ with_text (codes "name") (refusal_name number) (with_number (codes "refusal") number (with_text (codes "output") (codes "refused") old))
 

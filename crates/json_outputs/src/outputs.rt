@@ -1,10 +1,11 @@
 //! An output as JSON.
 
-ghost use Rattle.std.specs.Prelude.{◌≡◌, ◌≢◌, IfOk, OnOk, codes, string_bytes};
+ghost use Rattle.std.specs.Prelude.{◌≡◌, ◌≢◌, IfOk, OnOk, string_bytes};
 ghost use Rattle.map_body.specs.declared.fault.MapFault.TheVariants.{OutOfMemory};
-ghost use Rattle.serde_json.specs.Data.{Data, null, put};
+ghost use Rattle.serde_json.specs.Data.{null};
 ghost use Rattle.serde_json.specs.View.{view, members_view};
-ghost use Rattle.json_outputs.specs.Outputs.{TellsElements, TellsOutput, TellsCommand, with_map};
+ghost use Rattle.json_outputs.specs.Outputs.{TellsBody, TellsElements, TellsOutput, TellsCommand};
+ghost use Rattle.json_outputs.specs.Outputs.{with_bytes, with_span};
 ghost use Rattle.json_outputs.specs.Texts.{IsTextWhere};
 
 use crate::elements::elements_value;
@@ -37,38 +38,35 @@ fn elements_of(alloc: Global, bytes: &[u8]) -> Result<Value, AllocError>
     }
 }
 
-/// Puts the fields of a MAP among others, but for its elements.
-fn put_map_head(
+/// Puts the channel and the minislots of a MAP among other fields.
+fn put_span(
     map: &mut Map<String, Value>,
     alloc: Global,
     ch: u8,
     start: Slot,
     len: u16,
-    bytes: &[u8],
 ) -> Result<(), AllocError>
-    ensures { OnOk result (members_view map.new.entries ≡ with_map ch start len bytes.now (members_view map.old.entries)) }
+    ensures { OnOk result (members_view map.new.entries ≡ with_span ch start len (members_view map.old.entries)) }
 {
     put_text(map, alloc, "output", "map")?;
     put_number(map, alloc, "channel", u64::from(ch))?;
     put_time(map, alloc, "start", start.get())?;
-    put_number(map, alloc, "len", u64::from(len))?;
+    put_number(map, alloc, "len", u64::from(len))
+}
+
+/// Puts the bytes of a MAP among other fields.
+fn put_bytes(map: &mut Map<String, Value>, alloc: Global, bytes: &[u8]) -> Result<(), AllocError>
+    ensures { OnOk result (members_view map.new.entries ≡ with_bytes bytes.now (members_view map.old.entries)) }
+{
     let hex = hex::encode(alloc, bytes)?;
     put_text(map, alloc, "bytes", hex.as_str())
 }
 
-/// Puts the fields of a MAP among others.
-fn put_map(
-    map: &mut Map<String, Value>,
-    alloc: Global,
-    ch: u8,
-    start: Slot,
-    len: u16,
-    bytes: &[u8],
-) -> Result<(), AllocError>
-    ensures { OnOk result ((elements : Data) × TellsElements bytes.now elements
-        × (members_view map.new.entries ≡ put (codes "elements") elements (with_map ch start len bytes.now (members_view map.old.entries)))) }
+/// Puts the bytes of a MAP and its elements among other fields.
+fn put_body(map: &mut Map<String, Value>, alloc: Global, bytes: &[u8]) -> Result<(), AllocError>
+    ensures { OnOk result (TellsBody bytes.now (members_view map.old.entries) (members_view map.new.entries)) }
 {
-    put_map_head(map, alloc, ch, start, len, bytes)?;
+    put_bytes(map, alloc, bytes)?;
     let elements = elements_of(alloc, bytes)?;
     put(map, alloc, "elements", elements)
 }
@@ -107,7 +105,10 @@ pub fn put_output(
             start,
             len,
             bytes,
-        } => put_map(map, alloc, *ch, *start, *len, bytes.as_slice()),
+        } => {
+            put_span(map, alloc, *ch, *start, *len)?;
+            put_body(map, alloc, bytes.as_slice())
+        }
         Output::Refused(number) => {
             put_text(map, alloc, "output", "refused")?;
             put_number(map, alloc, "refusal", u64::from(*number))?;

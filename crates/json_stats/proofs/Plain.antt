@@ -3,7 +3,8 @@ use Rattle.std.proofs.Common.{ℕ, ◌/◌, ◌%◌, ◌^◌, ◌≤◌, List, c
 use Rattle.serde_json.specs.Data.{Members, no_members, object, depth}
 use Rattle.json_outputs.specs.Fields.{with_text}
 use Rattle.json_outputs.specs.Texts.{IsPlain}
-use Rattle.json_outputs.proofs.Callers.{AreSmall, none_small, object_small, with_number_small, with_text_small, with_time_small}
+use Rattle.json_outputs.proofs.Callers.{AreSmall, none_small, object_small, with_number_small, with_text_small}
+use Rattle.json_outputs.proofs.Callers.{with_time_small}
 use Rattle.map_stats.specs.declared.tally.Tally.{Tally}
 use Rattle.map_stats.specs.declared.summary.Delays.{Delays}
 use Rattle.map_stats.specs.declared.summary.Summary.{Summary}

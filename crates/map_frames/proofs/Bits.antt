@@ -1,12 +1,15 @@
 -- Numbers and their bits.
-use Rattle.std.proofs.Common.{◌≡◌, ℕ, zero, suc, ◌+◌, ◌-◌, ◌*◌, ◌/◌, ◌%◌, ◌^◌, ◌<◌, ◌≤◌, Bool, true, false, cond, not, map, List, [], ◌∷◌, ◌++◌, length, replicate, get_or, take, append-nil, refl, sym, ap, ◌∙◌, arith, inl, inr, ◌⊎◌, nat_eq}
+use Rattle.std.proofs.Common.{◌≡◌, ℕ, zero, suc, ◌+◌, ◌-◌, ◌*◌, ◌/◌, ◌%◌, ◌^◌, ◌<◌, ◌≤◌, Bool, true, false, cond, not}
+use Rattle.std.proofs.Common.{map, List, [], ◌∷◌, ◌++◌, length, replicate, get_or, take, append-nil, refl, sym, ap, ◌∙◌}
+use Rattle.std.proofs.Common.{arith, inl, inr, ◌⊎◌, nat_eq}
 use Rattle.std.proofs.lemmas.Bool.{eqb-true, eqb-false}
 use Rattle.std.proofs.lemmas.List.{take_more, take_all}
 use Rattle.std.proofs.lemmas.Grind.{flat_map-append}
 use Rattle.std.specs.Int.Bits.{bit_xor}
 use Rattle.std.proofs.lemmas.Nat.{xor_shr, xor_mod, mod_below}
 use Rattle.std.proofs.Math.Nat.{pow-suc}
-use Rattle.map_frames.specs.Polynomials.{sum_of, plus, remainder, is_odd, bits, number_of, byte_bits, all_bits, fed_one, fed}
+use Rattle.map_frames.specs.Polynomials.{sum_of, plus, remainder, is_odd, bits, number_of, byte_bits, all_bits, fed_one}
+use Rattle.map_frames.specs.Polynomials.{fed}
 use Rattle.map_frames.specs.Checks.{check_by}
 use Rattle.map_frames.proofs.Divisions.{remainder_fed, fed-append}
 

@@ -1,9 +1,11 @@
 -- The cells of a MAP fill its strip, frames end where strips do, and names have room.
-use Rattle.std.proofs.Common.{◌≡◌, ℕ, ◌+◌, ◌-◌, ◌*◌, ◌/◌, ◌<◌, ◌≤◌, ◌^◌, IsTrue, List, [], ◌∷◌, length, max, min, arith, ap, sym, ◌∙◌, inl, inr}
+use Rattle.std.proofs.Common.{◌≡◌, ℕ, ◌+◌, ◌-◌, ◌*◌, ◌/◌, ◌<◌, ◌≤◌, ◌^◌, IsTrue, List, [], ◌∷◌, length, max, min, arith}
+use Rattle.std.proofs.Common.{ap, sym, ◌∙◌, inl, inr}
 use Rattle.std.specs.List.{AllByRecursion}
 use Rattle.std.proofs.lemmas.Bool.{cases_lt, cond-false, cond-true, le-ltb, lt-ltb}
 use Rattle.std.proofs.lemmas.Nat.{le-div}
-use Rattle.std.proofs.Math.Nat.{div-mul-le_self, mul-div_cancel_left, zero-div, max-eq_left, min-eq_left, min-le_left, le-max_left, le-max_right}
+use Rattle.std.proofs.Math.Nat.{div-mul-le_self, mul-div_cancel_left, zero-div, max-eq_left, min-eq_left, min-le_left}
+use Rattle.std.proofs.Math.Nat.{le-max_left, le-max_right}
 use Rattle.map_body.specs.declared.interval.Interval.{Interval}
 use Rattle.plan_account.specs.Cover.{follow}
 use Rattle.plan_account.specs.declared.past.LeaseRow.{LeaseRow}

@@ -1,10 +1,12 @@
 -- Numbers above a channel are few, and by round steps.
-use Rattle.std.proofs.Common.{◌≡◌, ℕ, zero, suc, ◌+◌, ◌-◌, ◌*◌, ◌/◌, ◌≤◌, ◌^◌, Bool, true, false, if◌then◌else◌, nat_le, nat_lt, [], ◌∷◌, length, min, inl, inr, refl, sym, ap, ◌∙◌, arith}
+use Rattle.std.proofs.Common.{◌≡◌, ℕ, zero, suc, ◌+◌, ◌-◌, ◌*◌, ◌/◌, ◌≤◌, ◌^◌, Bool, true, false, if◌then◌else◌, nat_le}
+use Rattle.std.proofs.Common.{nat_lt, [], ◌∷◌, length, min, inl, inr, refl, sym, ap, ◌∙◌, arith}
 use Rattle.std.proofs.Math.Nat.{min-le_right}
 use Rattle.std.proofs.lemmas.List.{length-append}
 use Rattle.std.proofs.lemmas.Nat.{pow-add}
 use Rattle.map_picture.specs.declared.axis.Span.{Span}
-use Rattle.map_picture.specs.Scales.{most_numbers, multiples, number_count, numbers, part_of, step_in, step_of, steps_before, ten_after, IsRound, NumbersAreRound}
+use Rattle.map_picture.specs.Scales.{most_numbers, multiples, number_count, numbers, part_of, step_in, step_of}
+use Rattle.map_picture.specs.Scales.{steps_before, ten_after, IsRound, NumbersAreRound}
 
 -- ---- steps
 

@@ -1,7 +1,9 @@
 -- Texts that are renderings, one element after another.
-use Rattle.std.proofs.Common.{◌≡◌, ℕ, List, [], ◌++◌, Result, OnOk, ap, subst, ◌∙◌, sym, append_assoc}
+use Rattle.std.proofs.Common.{◌≡◌, ℕ, ◌+◌, List, [], ◌++◌, Option, Some, Result, OnOk, ap, subst, ◌∙◌, sym}
+use Rattle.std.proofs.Common.{append_assoc}
 use Rattle.xml_text.specs.Xml.{Tag, Xml, join, render, said, shape, titled}
-use Rattle.xml_text.proofs.Callers.{joined}
+use Rattle.xml_text.specs.Each.{each}
+use Rattle.xml_text.proofs.Callers.{each_more, joined}
 use Rattle.map_picture.specs.Pictures.{IsRendered}
 
 -- two, one behind the other
@@ -16,6 +18,12 @@ grown old new y (x, is_old) more = (join x y, more ∙ ap (λ t. t ++ render y) 
 -- the first, onto nothing
 pub begun : (old new : List ℕ) (x : Xml) → old ≡ [] → new ≡ old ++ render x → new ≡ render x
 begun old new x nothing more = more ∙ ap (λ t. t ++ render x) nothing
+
+-- one more, where f draws what is at each number
+pub next : {A : Type 0} (k : ℕ) (f : Option A → Xml) (at : ℕ → Option A) (a : A) (old before after : List ℕ) → at k ≡ Some a
+    → before ≡ old ++ render (each k (λ j. f (at j))) → after ≡ before ++ render (f (Some a)) → after ≡ old ++ render (each (k + 1) (λ j. f (at j)))
+next k f at a old before after there so_far added =
+    each_more k (λ j. f (at j)) old before after so_far (added ∙ ap (λ o. before ++ render (f o)) (sym there))
 
 -- a shape, its title, and words under other names
 pub other_shape : {T E : Type 0} (r : Result T E) (old new title other : List ℕ) (s t : Tag) → title ≡ other → s ≡ t

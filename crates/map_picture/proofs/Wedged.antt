@@ -1,5 +1,6 @@
 -- Which transmissions have wedges below a MAP, and which collide.
-use Rattle.std.proofs.Common.{◌≡◌, ℕ, zero, suc, ◌+◌, ◌<◌, ◌≤◌, Bool, true, false, List, ◌++◌, length, get_or, Option, Some, None, Result, OnOk, inl, inr, refl, sym, ap, subst, ◌∙◌, arith}
+use Rattle.std.proofs.Common.{◌≡◌, ℕ, zero, suc, ◌+◌, ◌<◌, ◌≤◌, Bool, true, false, List, ◌++◌, length, get_or, Option}
+use Rattle.std.proofs.Common.{Some, None, Result, OnOk, inl, inr, refl, sym, ap, subst, ◌∙◌, arith}
 use Rattle.std.specs.List.{AllWithin, slice_get}
 use Rattle.std.proofs.lemmas.Bool.{and_left, and_right, cases_lt, cond-false, cond-true, le-ltb, lt-leb, ne_eqb}
 use Rattle.std.proofs.lemmas.List.{append-nil}
@@ -9,6 +10,7 @@ use Rattle.std.proofs.lemmas.Option.{get_or_from_slice_get, slice_get_within}
 use Rattle.xml_text.specs.Xml.{Xml, join, render}
 use Rattle.xml_text.specs.Xml.Xml.{Nothing, Hollow, Saying, Holding}
 use Rattle.xml_text.specs.Each.{each}
+use Rattle.map_picture.specs.declared.cells.Strip.{Strip}
 use Rattle.map_picture.specs.declared.sent.Sent.{Sent}
 use Rattle.map_picture.specs.Wedges.{collides, is_in, meets, slot_of, wedge, wedge_at, wedge_for, wedges, AreBefore}
 
@@ -38,50 +40,50 @@ no_more_drawn f m (suc n) le none = elim (cases_lt n m) [
 -- ---- below a MAP
 
 -- an element in the place of one that isn't in the MAP
-of_option : (ts : List Sent) (ch left start len y : ℕ) (o : Option Sent) → ((t : Sent) → o ≡ Some t → is_in ch start len t ≡ false) → wedge_for ts ch left start len y o ≡ Nothing
-of_option ts ch left start len y None out = refl
-of_option ts ch left start len y (Some t) out = cond-false _ _ _ (out t refl)
+of_option : (ts : List Sent) (s : Strip) (o : Option Sent) → ((t : Sent) → o ≡ Some t → is_in s t ≡ false) → wedge_for ts s o ≡ Nothing
+of_option ts s None out = refl
+of_option ts s (Some t) out = cond-false _ _ _ (out t refl)
 
-no_wedge : (ts : List Sent) (ch left start len y j : ℕ) → ((t : Sent) → slice_get ts j ≡ Some t → is_in ch start len t ≡ false) → wedge_at ts ch left start len y j ≡ Nothing
-no_wedge ts ch left start len y j out = of_option ts ch left start len y (slice_get ts j) out
+no_wedge : (ts : List Sent) (s : Strip) (j : ℕ) → ((t : Sent) → slice_get ts j ≡ Some t → is_in s t ≡ false) → wedge_at ts s j ≡ Nothing
+no_wedge ts s j out = of_option ts s (slice_get ts j) out
 
 -- that of one in it
-pub one_wedge : {T E : Type 0} (r : Result T E) (old new : List ℕ) (ts : List Sent) (ch left start len y k : ℕ) (t : Sent) (clash : Bool) → slice_get ts k ≡ Some t
-    → is_in ch start len t ≡ true → clash ≡ collides ts t → OnOk r (new ≡ old ++ render (wedge clash left start len y t))
-    → OnOk r (new ≡ old ++ render (wedge_at ts ch left start len y k))
-one_wedge r old new ts ch left start len y k t clash there inside is_clash added =
-    let here : wedge_at ts ch left start len y k ≡ wedge (collides ts t) left start len y t = ap (wedge_for ts ch left start len y) there ∙ cond-true _ _ _ inside in
-    subst (λ (x : Xml). OnOk r (new ≡ old ++ render x)) (ap (λ b. wedge b left start len y t) is_clash ∙ sym here) added
+pub one_wedge : {T E : Type 0} (r : Result T E) (old new : List ℕ) (ts : List Sent) (s : Strip) (k : ℕ) (t : Sent) (clash : Bool) → slice_get ts k ≡ Some t
+    → is_in s t ≡ true → clash ≡ collides ts t → OnOk r (new ≡ old ++ render (wedge clash s t))
+    → OnOk r (new ≡ old ++ render (wedge_at ts s k))
+one_wedge r old new ts s k t clash there inside is_clash added =
+    let here : wedge_at ts s k ≡ wedge (collides ts t) s t = ap (wedge_for ts s) there ∙ cond-true _ _ _ inside in
+    subst (λ (x : Xml). OnOk r (new ≡ old ++ render x)) (ap (λ b. wedge b s t) is_clash ∙ sym here) added
 
-is_early : (ch start len : ℕ) (t : Sent) → slot_of t < start → is_in ch start len t ≡ false
-is_early ch start len t early = and_right _ _ (and_left _ _ (lt-leb start (slot_of t) early))
+is_early : (s : Strip) (t : Sent) → slot_of t < s.start → is_in s t ≡ false
+is_early s t early = and_right _ _ (and_left _ _ (lt-leb s.start (slot_of t) early))
 
-is_late : (ch start len : ℕ) (t : Sent) → start + len ≤ slot_of t → is_in ch start len t ≡ false
-is_late ch start len t late = and_right _ _ (and_right _ _ (le-ltb (slot_of t) (start + len) late))
+is_late : (s : Strip) (t : Sent) → s.start + s.len ≤ slot_of t → is_in s t ≡ false
+is_late s t late = and_right _ _ (and_right _ _ (le-ltb (slot_of t) (s.start + s.len) late))
 
-module _ (ts : List Sent) (ch left start len y : ℕ) where
+module _ (ts : List Sent) (s : Strip) where
   -- those before the MAP have none
-  early : (first : ℕ) → AreBefore start first ts → (j : ℕ) → j < first → wedge_at ts ch left start len y j ≡ Nothing
-  early first before j lt = no_wedge ts ch left start len y j (λ t there.
-      is_early ch start len t (subst (λ (u : Sent). slot_of u < start) (get_or_from_slice_get ts j t t there) (before.before j t (omega arith) lt)))
+  early : (first : ℕ) → AreBefore s.start first ts → (j : ℕ) → j < first → wedge_at ts s j ≡ Nothing
+  early first before j lt = no_wedge ts s j (λ t there.
+      is_early s t (subst (λ (u : Sent). slot_of u < s.start) (get_or_from_slice_get ts j t t there) (before.before j t (omega arith) lt)))
 
   -- nor have those behind it
-  late : (past : ℕ) → AreBefore (start + len) past ts → (j : ℕ) → past ≤ j → wedge_at ts ch left start len y j ≡ Nothing
-  late past before j le = no_wedge ts ch left start len y j (λ t there.
-      is_late ch start len t (subst (λ (u : Sent). start + len ≤ slot_of u) (get_or_from_slice_get ts j t t there) (before.from j t le (slice_get_within ts j t there))))
+  late : (past : ℕ) → AreBefore (s.start + s.len) past ts → (j : ℕ) → past ≤ j → wedge_at ts s j ≡ Nothing
+  late past before j le = no_wedge ts s j (λ t there.
+      is_late s t (subst (λ (u : Sent). s.start + s.len ≤ slot_of u) (get_or_from_slice_get ts j t t there) (before.from j t le (slice_get_within ts j t there))))
 
   -- so none are drawn yet at the first that may be in it
-  pub none_yet : (first : ℕ) (old : List ℕ) → AreBefore start first ts → old ≡ old ++ render (each first (wedge_at ts ch left start len y))
+  pub none_yet : (first : ℕ) (old : List ℕ) → AreBefore s.start first ts → old ≡ old ++ render (each first (wedge_at ts s))
   none_yet first old before =
-      let none : each first (wedge_at ts ch left start len y) ≡ Nothing = none_drawn (wedge_at ts ch left start len y) first (early first before) in
+      let none : each first (wedge_at ts s) ≡ Nothing = none_drawn (wedge_at ts s) first (early first before) in
       sym (append-nil old) ∙ ap (λ x. old ++ render x) (sym none)
 
   -- and all are at the first behind it
-  pub all_wedges : (past k : ℕ) → AreBefore (start + len) past ts → past ≤ k → each k (wedge_at ts ch left start len y) ≡ wedges ts ch left start len y
+  pub all_wedges : (past k : ℕ) → AreBefore (s.start + s.len) past ts → past ≤ k → each k (wedge_at ts s) ≡ wedges ts s
   all_wedges past k before over =
-      let up_to : each k (wedge_at ts ch left start len y) ≡ each past (wedge_at ts ch left start len y) = no_more_drawn (wedge_at ts ch left start len y) past k over (late past before) in
-      let whole : wedges ts ch left start len y ≡ each past (wedge_at ts ch left start len y) =
-      no_more_drawn (wedge_at ts ch left start len y) past (length ts) before.bound (late past before) in
+      let up_to : each k (wedge_at ts s) ≡ each past (wedge_at ts s) = no_more_drawn (wedge_at ts s) past k over (late past before) in
+      let whole : wedges ts s ≡ each past (wedge_at ts s) =
+      no_more_drawn (wedge_at ts s) past (length ts) before.bound (late past before) in
       up_to ∙ sym whole
 
 -- ---- collisions

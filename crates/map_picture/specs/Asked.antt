@@ -1,5 +1,6 @@
 -- The row of a request: when it was sent, when it was told to wait, what became of it.
-use Rattle.std.specs.Prelude.{ℕ, ◌+◌, ◌-◌, ◌%◌, ◌^◌, if◌then◌else◌, min, List, [], ◌++◌, codes, decimal, Option, Some, None}
+use Rattle.std.specs.Prelude.{ℕ, ◌+◌, ◌-◌, ◌%◌, ◌^◌, if◌then◌else◌, min, List, [], ◌++◌, codes, decimal, Option, Some}
+use Rattle.std.specs.Prelude.{None}
 use Rattle.plan_account.specs.declared.past.Fate.{Fate}
 use Rattle.plan_account.specs.declared.past.Fate.TheVariants.{Waits, Gone, Granted}
 use Rattle.plan_account.specs.declared.past.RequestRow.{RequestRow}
@@ -68,13 +69,13 @@ told_mark axis y None why = Nothing
 
 -- a block where it is granted, in its SID's colour; else a red bar
 abbrev pub bar : Axis → ℕ → RequestRow → Xml
-bar axis y r = shape (Rectangle (at axis (stop axis r)) y 3 14 0 (codes "bad"))
+bar axis y r = shape (Rectangle (at axis (stop axis r)) y 3 14 (codes "bad"))
 
 abbrev pub end_mark : Axis → ℕ → RequestRow → Fate → Xml
 end_mark axis y r (Waits why) = bar axis y r
 end_mark axis y r Gone = bar axis y r
 end_mark axis y r (Granted map start) =
-    shape (Rectangle (at axis start) y (wide axis start (min (start + r.n) (2 ^ 64 - 1))) 14 0 (class_of (r.key % 2 ^ 16)))
+    shape (Rectangle (at axis start) y (wide axis start (min (start + r.n) (2 ^ 64 - 1))) 14 (class_of (r.key % 2 ^ 16)))
 
 -- what became of it, and why it waits, or waited last
 abbrev pub end_words : ℕ → Fate → List ℕ

@@ -1,5 +1,6 @@
 -- The axis of time of a channel.
-use Rattle.std.specs.Prelude.{ℕ, ◌+◌, ◌-◌, ◌*◌, ◌/◌, ◌^◌, ◌==◌, ◌&&◌, nat_lt, not, Bool, if◌then◌else◌, min, max, List, [], ◌∷◌}
+use Rattle.std.specs.Prelude.{ℕ, ◌+◌, ◌-◌, ◌*◌, ◌/◌, ◌^◌, ◌==◌, ◌&&◌, nat_lt, not, Bool, if◌then◌else◌, min, max, List}
+use Rattle.std.specs.Prelude.{[], ◌∷◌}
 use Rattle.plan_account.specs.declared.deed.Deed.{Deed}
 use Rattle.plan_account.specs.declared.deed.Deed.TheVariants as deeds
 use Rattle.map_picture.specs.declared.axis.Axis.{Axis}

@@ -1,5 +1,6 @@
 -- A MAP as a strip of cells, a cell an interval, on an axis of its own.
-use Rattle.std.specs.Prelude.{◌≡◌, ℕ, ◌+◌, ◌-◌, ◌*◌, ◌/◌, ◌%◌, ◌==◌, ◌&&◌, ◌<◌, ◌≤◌, ◌^◌, nat_lt, if◌then◌else◌, max, IsTrue, List, [], ◌∷◌, ◌++◌, length, codes, decimal, slice_get, Option, Some, None}
+use Rattle.std.specs.Prelude.{◌≡◌, ℕ, ◌+◌, ◌-◌, ◌*◌, ◌/◌, ◌%◌, ◌==◌, ◌&&◌, ◌<◌, ◌≤◌, ◌^◌, nat_lt, if◌then◌else◌, max}
+use Rattle.std.specs.Prelude.{IsTrue, List, [], ◌∷◌, ◌++◌, length, codes, decimal, slice_get, Option, Some, None}
 use Rattle.map_body.specs.declared.interval.Interval.{Interval}
 use Rattle.map_body.specs.Iucs.{initial_maintenance, request}
 use Rattle.map_body.specs.Sids.{everybody}
@@ -10,6 +11,7 @@ use Rattle.xml_text.specs.Xml.Xml.{Nothing}
 use Rattle.xml_text.specs.Each.{each}
 use Rattle.map_picture.specs.declared.axis.Axis.{Axis}
 use Rattle.map_picture.specs.declared.axis.Columns.{Columns}
+use Rattle.map_picture.specs.declared.cells.Strip.{Strip}
 use Rattle.map_picture.specs.Axis.{at}
 
 -- the colour of a SID, by its remainder by 7
@@ -37,8 +39,8 @@ words_class sid = if sid == everybody then codes "s mute" else codes "s k"
 abbrev pub cell_x : (left len x : ℕ) → ℕ
 cell_x left len x = left + x * 768 / max len 1
 
-abbrev pub cell_width : (left len : ℕ) → Interval → ℕ
-cell_width left len i = cell_x left len i.to - cell_x left len i.from
+abbrev pub cell_width : Strip → Interval → ℕ
+cell_width s i = cell_x s.columns.left s.len i.to - cell_x s.columns.left s.len i.from
 
 -- whose minislots of a SID are
 abbrev pub owner_name : ℕ → List ℕ
@@ -49,29 +51,29 @@ abbrev pub cell_title : Interval → List ℕ
 cell_title i =
     owner_name i.sid ++ (codes ", iuc " ++ (decimal i.iuc ++ (codes ": offset " ++ (decimal i.from ++ (codes ", " ++ (decimal (i.to - i.from) ++ codes " long"))))))
 
-abbrev pub cell_shape : (left len y : ℕ) → Interval → Xml
-cell_shape left len y i =
-    titled (cell_title i) (shape (Rectangle (cell_x left len i.from) y (cell_width left len i) (high i) 0 (cell_class i)))
+abbrev pub cell_shape : Strip → Interval → Xml
+cell_shape s i =
+    titled (cell_title i) (shape (Rectangle (cell_x s.columns.left s.len i.from) s.y (cell_width s i) (high i) (cell_class i)))
 
 -- whose it is, where there is room for it: for 6 units a character
-abbrev pub cell_words : (left len y : ℕ) → Interval → Xml
-cell_words left len y i =
-    if nat_lt (cell_width left len i) (6 * length (owner_name i.sid) + 8) then Nothing
-    else said (Words (cell_x left len i.from + 4) (y + 11) (words_class i.sid)) (owner_name i.sid)
+abbrev pub cell_words : Strip → Interval → Xml
+cell_words s i =
+    if nat_lt (cell_width s i) (6 * length (owner_name i.sid) + 8) then Nothing
+    else said (Words (cell_x s.columns.left s.len i.from + 4) (s.y + 11) (words_class i.sid)) (owner_name i.sid)
 
-abbrev pub cell : (left len y : ℕ) → Interval → Xml
-cell left len y i = join (cell_shape left len y i) (cell_words left len y i)
+abbrev pub cell : Strip → Interval → Xml
+cell s i = join (cell_shape s i) (cell_words s i)
 
-abbrev pub cell_for : (left len y : ℕ) → Option Interval → Xml
-cell_for left len y (Some i) = cell left len y i
-cell_for left len y None = Nothing
+abbrev pub cell_for : Strip → Option Interval → Xml
+cell_for s (Some i) = cell s i
+cell_for s None = Nothing
 
-abbrev pub cell_at : (left len y : ℕ) → List Interval → ℕ → Xml
-cell_at left len y is k = cell_for left len y (slice_get is k)
+abbrev pub cell_at : Strip → List Interval → ℕ → Xml
+cell_at s is k = cell_for s (slice_get is k)
 
 -- all of them
-abbrev pub cells : (left len y : ℕ) → List Interval → Xml
-cells left len y is = each (length is) (cell_at left len y is)
+abbrev pub cells : Strip → List Interval → Xml
+cells s is = each (length is) (cell_at s is)
 
 -- how wide intervals are together, where minislots begin there
 abbrev pub widths : (ℕ → ℕ) → List Interval → ℕ

@@ -1,5 +1,6 @@
 -- The picture of the account of a plan, and of what modems transmitted in its MAPs.
-use Rattle.std.specs.Prelude.{◌≡◌, ℕ, ◌+◌, ◌*◌, ◌^◌, ◌<◌, List, [], ◌∷◌, ◌++◌, codes, decimal, length, slice_get, Option, Some, None}
+use Rattle.std.specs.Prelude.{◌≡◌, ℕ, ◌+◌, ◌*◌, ◌^◌, ◌<◌, List, [], ◌∷◌, ◌++◌, codes, decimal, length, slice_get}
+use Rattle.std.specs.Prelude.{Option, Some, None}
 use Rattle.std.specs.List.Sorted.{IsPermutation}
 use Rattle.plan_account.specs.declared.deed.Deed.{Deed}
 use Rattle.plan_account.specs.declared.deed.Deed.TheVariants as deeds
@@ -16,13 +17,14 @@ use Rattle.map_picture.specs.declared.axis.Axis.{Axis}
 use Rattle.map_picture.specs.declared.axis.Columns.{Columns}
 use Rattle.map_picture.specs.declared.axis.Page.{Page}
 use Rattle.map_picture.specs.declared.axis.Span.{Span}
+use Rattle.map_picture.specs.declared.cells.Strip.{Strip}
 use Rattle.map_picture.specs.declared.sent.Sent.{Sent}
 use Rattle.map_picture.specs.Axis.{at, right, span_of, wide}
 use Rattle.map_picture.specs.Scales.{no_map, numbers, scale, ticks}
 use Rattle.map_picture.specs.Columns.{columns_of}
 use Rattle.map_picture.specs.Picked.{leases_on, maps_on, requests_on}
 use Rattle.map_picture.specs.Cells.{cells}
-use Rattle.map_picture.specs.Owners.{owner}
+use Rattle.map_picture.specs.Owners.{owner_row}
 use Rattle.map_picture.specs.Asked.{asked}
 use Rattle.map_picture.specs.Wedges.{wedges}
 
@@ -30,102 +32,114 @@ use Rattle.map_picture.specs.Wedges.{wedges}
 abbrev pub IsRendered : List ℕ → Type 0
 IsRendered text = (x : Xml) × (text ≡ render x)
 
--- the strip of MAP k: its number, from 1 on, its cells, what modems transmitted in it, and which command gave it when
-abbrev pub strip_name : Columns → (y k : ℕ) → Xml
-strip_name columns y k = said (Words columns.names (y + 11) (codes "s e b")) (codes "MAP " ++ decimal (k + 1))
+-- what is drawn of a channel: what commands did, the numbers above it, what modems sent, and its rows
+pub record ChannelRows : Type 0 where
+  pub page : Page
+  pub deeds : List Deed
+  pub numbers : List ℕ
+  pub sent : List Sent
+  pub owners : List LeaseRow
+  pub requests : List RequestRow
+  pub maps : List ℕ
+
+-- MAP k of a channel by its number, from 1 on
+abbrev pub map_name : ℕ → List ℕ
+map_name k = codes "MAP " ++ decimal (k + 1)
+
+-- the strip of a MAP: its number, its cells, what modems transmitted in it, and which command gave it when
+abbrev pub strip_name : Strip → Xml
+strip_name s = said (Words s.columns.names (s.y + 11) (codes "s e b")) (map_name s.number)
 
 abbrev pub strip_text : (i start len : ℕ) → List ℕ
 strip_text i start len = codes "command " ++ (decimal (i + 1) ++ (codes ": " ++ (decimal len ++ (codes " from " ++ decimal start))))
 
-abbrev pub strip_words : Columns → (y i start len : ℕ) → Xml
-strip_words columns y i start len = said (Words (right columns) (y + 11) (codes "s mute")) (strip_text i start len)
+abbrev pub strip_words : Strip → Xml
+strip_words s = said (Words (right s.columns) (s.y + 11) (codes "s mute")) (strip_text s.deed s.start s.len)
 
-abbrev pub strip : Columns → (ns : List ℕ) → List Sent → (y k i ch start len : ℕ) → Shown → Xml
-strip columns ns ts y k i ch start len map =
-    join (join (join (join (strip_name columns y k) (cells columns.left len y map.intervals)) (ticks columns.left start len y ns))
-    (wedges ts ch columns.left start len y)) (strip_words columns y i start len)
+abbrev pub strip_row : ChannelRows → Strip → Shown → Xml
+strip_row c s map = join (join (join (join (strip_name s) (cells s map.intervals)) (ticks s c.numbers)) (wedges c.sent s)) (strip_words s)
 
 -- the strip of deed i, which is MAP k
-abbrev pub strip_of : Columns → (ns : List ℕ) → List Sent → (y k i : ℕ) → Deed → Xml
-strip_of columns ns ts y k i (deeds.Map c start len keep map) = strip columns ns ts y k i c start len map
-strip_of columns ns ts y k i (deeds.Channel c) = Nothing
-strip_of columns ns ts y k i (deeds.Flow c sid modem first last kind) = Nothing
-strip_of columns ns ts y k i (deeds.Drop c sid) = Nothing
-strip_of columns ns ts y k i (deeds.Request c sid n sent) = Nothing
-strip_of columns ns ts y k i deeds.Other = Nothing
+abbrev pub strip_by : Columns → (y k i ch start len : ℕ) → Strip
+strip_by columns y k i ch start len = record { columns = columns; y = y; number = k; deed = i; ch = ch; start = start; len = len }
 
-abbrev pub strip_with : Columns → (ns : List ℕ) → List Sent → (y k i : ℕ) → Option Deed → Xml
-strip_with columns ns ts y k i (Some d) = strip_of columns ns ts y k i d
-strip_with columns ns ts y k i None = Nothing
+abbrev pub strip_of : ChannelRows → (y k i : ℕ) → Deed → Xml
+strip_of c y k i (deeds.Map ch start len keep map) = strip_row c (strip_by c.page.axis.columns y k i ch start len) map
+strip_of c y k i (deeds.Channel ch) = Nothing
+strip_of c y k i (deeds.Flow ch sid modem first last kind) = Nothing
+strip_of c y k i (deeds.Drop ch sid) = Nothing
+strip_of c y k i (deeds.Request ch sid n sent) = Nothing
+strip_of c y k i deeds.Other = Nothing
 
-abbrev pub strip_for : List Deed → Columns → (ns : List ℕ) → List Sent → (y k : ℕ) → Option ℕ → Xml
-strip_for ds columns ns ts y k (Some i) = strip_with columns ns ts y k i (slice_get ds i)
-strip_for ds columns ns ts y k None = Nothing
+abbrev pub strip_with : ChannelRows → (y k i : ℕ) → Option Deed → Xml
+strip_with c y k i (Some d) = strip_of c y k i d
+strip_with c y k i None = Nothing
+
+abbrev pub strip_for : ChannelRows → (y k : ℕ) → Option ℕ → Xml
+strip_for c y k (Some i) = strip_with c y k i (slice_get c.deeds i)
+strip_for c y k None = Nothing
 
 -- sections: a row a lease, a row a request, and a row a MAP, each 22 high
-abbrev pub owner_for : Page → List Deed → (y : ℕ) → Option LeaseRow → Xml
-owner_for p ds y (Some l) = owner p ds y l
-owner_for p ds y None = Nothing
+abbrev pub owner_for : ChannelRows → (y : ℕ) → Option LeaseRow → Xml
+owner_for c y (Some l) = owner_row c.deeds (record { page = c.page; y = y; row = l })
+owner_for c y None = Nothing
 
-abbrev pub owner_at : Page → List Deed → ℕ → List LeaseRow → ℕ → Xml
-owner_at p ds top rows k = owner_for p ds (top + 22 * k) (slice_get rows k)
+abbrev pub owner_at : ChannelRows → (top k : ℕ) → Xml
+owner_at c top k = owner_for c (top + 22 * k) (slice_get c.owners k)
 
-abbrev pub owners : Page → List Deed → ℕ → List LeaseRow → Xml
-owners p ds top rows = each (length rows) (owner_at p ds top rows)
+abbrev pub owners : ChannelRows → (top : ℕ) → Xml
+owners c top = each (length c.owners) (owner_at c top)
 
 abbrev pub request_for : Axis → (y : ℕ) → Option RequestRow → Xml
 request_for axis y (Some r) = asked axis y r
 request_for axis y None = Nothing
 
-abbrev pub request_at : Axis → ℕ → List RequestRow → ℕ → Xml
-request_at axis top rows k = request_for axis (top + 22 * k) (slice_get rows k)
+abbrev pub request_at : ChannelRows → (top k : ℕ) → Xml
+request_at c top k = request_for c.page.axis (top + 22 * k) (slice_get c.requests k)
 
-abbrev pub requests : Axis → ℕ → List RequestRow → Xml
-requests axis top rows = each (length rows) (request_at axis top rows)
+abbrev pub requests : ChannelRows → (top : ℕ) → Xml
+requests c top = each (length c.requests) (request_at c top)
 
-abbrev pub strip_at : List Deed → Columns → (ns : List ℕ) → List Sent → ℕ → List ℕ → ℕ → Xml
-strip_at ds columns ns ts top rows k = strip_for ds columns ns ts (top + 22 * k) k (slice_get rows k)
+abbrev pub strip_at : ChannelRows → (top k : ℕ) → Xml
+strip_at c top k = strip_for c (top + 22 * k) k (slice_get c.maps k)
 
-abbrev pub strips : List Deed → Columns → (ns : List ℕ) → List Sent → ℕ → List ℕ → Xml
-strips ds columns ns ts top rows = each (length rows) (strip_at ds columns ns ts top rows)
+abbrev pub strips : ChannelRows → (top : ℕ) → Xml
+strips c top = each (length c.maps) (strip_at c top)
 
 -- the frame of MAP k on the axis of time, down to the last request
-abbrev pub frame_title : ℕ → List ℕ
-frame_title k = codes "MAP " ++ decimal (k + 1)
+abbrev pub frame : Axis → (y height k : ℕ) → Deed → Xml
+frame axis y height k (deeds.Map ch start len keep map) =
+    titled (map_name k) (shape (Rectangle (at axis start) y (wide axis start (start + len)) height (codes "frame")))
+frame axis y height k (deeds.Channel ch) = Nothing
+frame axis y height k (deeds.Flow ch sid modem first last kind) = Nothing
+frame axis y height k (deeds.Drop ch sid) = Nothing
+frame axis y height k (deeds.Request ch sid n sent) = Nothing
+frame axis y height k deeds.Other = Nothing
 
-abbrev pub frame : Page → (y height k : ℕ) → Deed → Xml
-frame p y height k (deeds.Map c start len keep map) =
-    titled (frame_title k) (shape (Rectangle (at p.axis start) y (wide p.axis start (start + len)) height 0 (codes "frame")))
-frame p y height k (deeds.Channel c) = Nothing
-frame p y height k (deeds.Flow c sid modem first last kind) = Nothing
-frame p y height k (deeds.Drop c sid) = Nothing
-frame p y height k (deeds.Request c sid n sent) = Nothing
-frame p y height k deeds.Other = Nothing
+abbrev pub frame_for : Axis → (y height k : ℕ) → Option Deed → Xml
+frame_for axis y height k (Some d) = frame axis y height k d
+frame_for axis y height k None = Nothing
 
-abbrev pub frame_for : Page → (y height k : ℕ) → Option Deed → Xml
-frame_for p y height k (Some d) = frame p y height k d
-frame_for p y height k None = Nothing
+abbrev pub frame_of : ChannelRows → (y height k : ℕ) → Option ℕ → Xml
+frame_of c y height k (Some i) = frame_for c.page.axis y height k (slice_get c.deeds i)
+frame_of c y height k None = Nothing
 
-abbrev pub frame_of : Page → List Deed → (y height k : ℕ) → Option ℕ → Xml
-frame_of p ds y height k (Some i) = frame_for p y height k (slice_get ds i)
-frame_of p ds y height k None = Nothing
+abbrev pub frame_at : ChannelRows → (y height k : ℕ) → Xml
+frame_at c y height k = frame_of c y height k (slice_get c.maps k)
 
-abbrev pub frame_at : Page → List Deed → (y height : ℕ) → List ℕ → ℕ → Xml
-frame_at p ds y height rows k = frame_of p ds y height k (slice_get rows k)
-
-abbrev pub frames : Page → List Deed → (y height : ℕ) → List ℕ → Xml
-frames p ds y height rows = each (length rows) (frame_at p ds y height rows)
+abbrev pub frames : ChannelRows → (y height : ℕ) → Xml
+frames c y height = each (length c.maps) (frame_at c y height)
 
 abbrev pub heading : (ch y : ℕ) → Xml
 heading ch y = said (Words 16 (y + 16) (codes "h")) (codes "channel " ++ decimal ch)
 
 -- a channel from y down: numbers of minislots, frames of its MAPs round a row a lease and a row a request, and then a
 -- row a MAP
-abbrev pub channel_rows : Page → List Deed → (ns : List ℕ) → List Sent → (y : ℕ) → List LeaseRow → List RequestRow → (maps : List ℕ) → Xml
-channel_rows p ds ns ts y ls rs maps =
-    join (join (join (join (join (join (heading p.ch y) (no_map p.axis y)) (scale p.axis y ns))
-    (frames p ds (y + 42) (22 * length ls + 22 * length rs + 2) maps)) (owners p ds (y + 46) ls)) (requests p.axis (y + 46 + 22 * length ls) rs))
-    (strips ds p.axis.columns ns ts (y + 60 + 22 * length ls + 22 * length rs) maps)
+abbrev pub channel_rows : ChannelRows → (y : ℕ) → Xml
+channel_rows c y =
+    join (join (join (join (join (join (heading c.page.ch y) (no_map c.page.axis y)) (scale c.page.axis y c.numbers))
+    (frames c (y + 42) (22 * length c.owners + 22 * length c.requests + 2))) (owners c (y + 46))) (requests c (y + 46 + 22 * length c.owners)))
+    (strips c (y + 60 + 22 * length c.owners + 22 * length c.requests))
 
 -- its axis
 abbrev pub axis_by : Span → List LeaseRow → List RequestRow → Axis
@@ -134,10 +148,19 @@ axis_by span ls rs = record { columns = columns_of span ls rs; span = span }
 abbrev pub axis_of : Rows → (ch : ℕ) → Axis
 axis_of a ch = axis_by (span_of a.deeds ch) (leases_on ch a.leases) (requests_on ch a.requests)
 
+abbrev pub rows_on : Rows → List Sent → (ch : ℕ) → ChannelRows
+rows_on a ts ch = record {
+  page = record { ch = ch; axis = axis_of a ch };
+  deeds = a.deeds;
+  numbers = numbers (span_of a.deeds ch);
+  sent = ts;
+  owners = leases_on ch a.leases;
+  requests = requests_on ch a.requests;
+  maps = maps_on ch a.deeds;
+}
+
 abbrev pub channel : Rows → List Sent → (ch y : ℕ) → Xml
-channel a ts ch y =
-    channel_rows (record { ch = ch; axis = axis_of a ch }) a.deeds (numbers (span_of a.deeds ch)) ts y (leases_on ch a.leases)
-    (requests_on ch a.requests) (maps_on ch a.deeds)
+channel a ts ch y = channel_rows (rows_on a ts ch) y
 
 -- how high it is
 abbrev pub channel_height : Rows → ℕ → ℕ
@@ -148,19 +171,32 @@ abbrev pub tops_from : Rows → ℕ → List ℕ → List ℕ
 tops_from a y [] = y ∷ []
 tops_from a y (ch ∷ channels) = y ∷ tops_from a (y + channel_height a ch) channels
 
-abbrev pub channel_for : Rows → List Sent → Option ℕ → Option ℕ → Xml
-channel_for a ts (Some ch) (Some y) = channel a ts ch y
-channel_for a ts ch y = Nothing
+-- channels one below the other
+pub record Stack : Type 0 where
+  pub account : Rows
+  pub sent : List Sent
+  pub channels : List ℕ
+  pub tops : List ℕ
 
-abbrev pub channel_at : Rows → List Sent → (channels tops : List ℕ) → ℕ → Xml
-channel_at a ts channels tops k = channel_for a ts (slice_get channels k) (slice_get tops k)
+abbrev pub channel_for : Stack → Option ℕ → Option ℕ → Xml
+channel_for s (Some ch) (Some y) = channel s.account s.sent ch y
+channel_for s ch y = Nothing
 
--- the channels that deeds set, one below the other
+abbrev pub channel_at : Stack → ℕ → Xml
+channel_at s k = channel_for s (slice_get s.channels k) (slice_get s.tops k)
+
+-- the channels that deeds set
 abbrev pub first_top : ℕ
 first_top = 72
 
+abbrev pub stack_of : Rows → List Sent → Stack
+stack_of a ts = record { account = a; sent = ts; channels = channels_of a.deeds; tops = tops_from a first_top (channels_of a.deeds) }
+
+abbrev pub stacked : Stack → Xml
+stacked s = each (length s.channels) (channel_at s)
+
 abbrev pub channels_drawn : Rows → List Sent → Xml
-channels_drawn a ts = each (length (channels_of a.deeds)) (channel_at a ts (channels_of a.deeds) (tops_from a first_top (channels_of a.deeds)))
+channels_drawn a ts = stacked (stack_of a ts)
 
 -- the layers: channels below a legend
 abbrev pub layers : Rows → List Sent → (legend : Xml) → Drawn

@@ -1,5 +1,6 @@
 -- Minislot numbers above a channel, and their ticks on frames and on strips.
-use Rattle.std.specs.Prelude.{◌≡◌, ◌≤◌, ◌⊎◌, ℕ, zero, suc, ◌+◌, ◌-◌, ◌*◌, ◌/◌, ◌^◌, ◌&&◌, nat_le, nat_lt, if◌then◌else◌, min, List, [], ◌∷◌, ◌++◌, length, codes, decimal, slice_get, Option, Some, None}
+use Rattle.std.specs.Prelude.{◌≡◌, ◌≤◌, ◌⊎◌, ℕ, zero, suc, ◌+◌, ◌-◌, ◌*◌, ◌/◌, ◌^◌, ◌&&◌, nat_le, nat_lt, if◌then◌else◌}
+use Rattle.std.specs.Prelude.{min, List, [], ◌∷◌, ◌++◌, length, codes, decimal, slice_get, Option, Some, None}
 use Rattle.std.specs.Int.{div_ceil}
 use Rattle.xml_text.specs.Xml.{Xml, join, said, shape}
 use Rattle.xml_text.specs.Xml.Tag.{Line, Words}
@@ -7,6 +8,7 @@ use Rattle.xml_text.specs.Xml.Xml.{Nothing}
 use Rattle.xml_text.specs.Each.{each}
 use Rattle.map_picture.specs.declared.axis.Axis.{Axis}
 use Rattle.map_picture.specs.declared.axis.Span.{Span}
+use Rattle.map_picture.specs.declared.cells.Strip.{Strip}
 use Rattle.map_picture.specs.Axis.{at, is_bare}
 use Rattle.map_picture.specs.Cells.{cell_x}
 
@@ -93,17 +95,19 @@ no_map axis y = if is_bare axis.span then said (Words axis.columns.left (y + 34)
 -- ---- on a strip
 
 -- a tick of a minislot that is in the MAP, or ends it
-abbrev pub tick : (left start len y t : ℕ) → Xml
-tick left start len y t =
-    if nat_le start t && nat_le t (start + len)
-    then shape (Line (cell_x left len (t - start)) (y - 4) (cell_x left len (t - start)) y (codes "tick")) else Nothing
+abbrev pub tick_x : Strip → (t : ℕ) → ℕ
+tick_x s t = cell_x s.columns.left s.len (t - s.start)
 
-abbrev pub tick_for : (left start len y : ℕ) → Option ℕ → Xml
-tick_for left start len y (Some t) = tick left start len y t
-tick_for left start len y None = Nothing
+abbrev pub tick : Strip → (t : ℕ) → Xml
+tick s t =
+    if nat_le s.start t && nat_le t (s.start + s.len) then shape (Line (tick_x s t) (s.y - 4) (tick_x s t) s.y (codes "tick")) else Nothing
 
-abbrev pub tick_at : (left start len y : ℕ) → List ℕ → ℕ → Xml
-tick_at left start len y ns k = tick_for left start len y (slice_get ns k)
+abbrev pub tick_for : Strip → Option ℕ → Xml
+tick_for s (Some t) = tick s t
+tick_for s None = Nothing
 
-abbrev pub ticks : (left start len y : ℕ) → List ℕ → Xml
-ticks left start len y ns = each (length ns) (tick_at left start len y ns)
+abbrev pub tick_at : Strip → List ℕ → ℕ → Xml
+tick_at s ns k = tick_for s (slice_get ns k)
+
+abbrev pub ticks : Strip → List ℕ → Xml
+ticks s ns = each (length ns) (tick_at s ns)

@@ -1,5 +1,6 @@
 -- In which minislots of a MAP modems transmitted: a wedge each, below its strip.
-use Rattle.std.specs.Prelude.{ℕ, ◌+◌, ◌-◌, ◌*◌, ◌/◌, ◌<◌, ◌≤◌, ◌==◌, nat_le, nat_lt, Bool, ◌&&◌, not, if◌then◌else◌, max, List, [], ◌++◌, length, codes, decimal, slice_get, Option, Some, None}
+use Rattle.std.specs.Prelude.{ℕ, ◌+◌, ◌-◌, ◌*◌, ◌/◌, ◌<◌, ◌≤◌, ◌==◌, nat_le, nat_lt, Bool, ◌&&◌, not, if◌then◌else◌}
+use Rattle.std.specs.Prelude.{max, List, [], ◌++◌, length, codes, decimal, slice_get, Option, Some, None}
 use Rattle.std.specs.List.{AllWithin, list_any}
 use Rattle.std.specs.List.Sorted.{IsNonDecreasingBy}
 use Rattle.modem.specs.declared.types.Sending.{Sending}
@@ -8,13 +9,14 @@ use Rattle.xml_text.specs.Xml.{Xml, shape, titled}
 use Rattle.xml_text.specs.Xml.Tag.{Path}
 use Rattle.xml_text.specs.Xml.Xml.{Nothing}
 use Rattle.xml_text.specs.Each.{each}
+use Rattle.map_picture.specs.declared.cells.Strip.{Strip}
 use Rattle.map_picture.specs.declared.sent.Sent.{Sent}
 
 -- ---- which there are
 
--- it was in the channel, in a MAP that begins then and is so long
-abbrev pub is_in : (ch start len : ℕ) → Sent → Bool
-is_in ch start len t = (t.channel == ch) && (nat_le start t.slot && nat_lt t.slot (start + len))
+-- it was in the channel of a MAP, in one of its minislots
+abbrev pub is_in : Strip → Sent → Bool
+is_in s t = (t.channel == s.ch) && (nat_le s.start t.slot && nat_lt t.slot (s.start + s.len))
 
 -- another modem transmitted in the same minislot of the channel
 abbrev pub meets : Sent → Sent → Bool
@@ -53,22 +55,22 @@ abbrev pub wedge_title : Bool → Sent → List ℕ
 wedge_title clash t =
     codes "modem " ++ (decimal t.id ++ (codes ": " ++ (sending_words t.sending ++ (codes ", minislot " ++ (decimal t.slot ++ clash_words clash)))))
 
-abbrev pub wedge : Bool → (left start len y : ℕ) → Sent → Xml
-wedge clash left start len y t =
-    titled (wedge_title clash t) (shape (Path (wedge_steps (middle left len (t.slot - start)) (y + 11)) (wedge_class clash)))
+abbrev pub wedge : Bool → Strip → Sent → Xml
+wedge clash s t =
+    titled (wedge_title clash t) (shape (Path (wedge_steps (middle s.columns.left s.len (t.slot - s.start)) (s.y + 11)) (wedge_class clash)))
 
 -- ---- all of them
 
-abbrev pub wedge_for : List Sent → (ch left start len y : ℕ) → Option Sent → Xml
-wedge_for ts ch left start len y (Some t) = if is_in ch start len t then wedge (collides ts t) left start len y t else Nothing
-wedge_for ts ch left start len y None = Nothing
+abbrev pub wedge_for : List Sent → Strip → Option Sent → Xml
+wedge_for ts s (Some t) = if is_in s t then wedge (collides ts t) s t else Nothing
+wedge_for ts s None = Nothing
 
-abbrev pub wedge_at : List Sent → (ch left start len y k : ℕ) → Xml
-wedge_at ts ch left start len y k = wedge_for ts ch left start len y (slice_get ts k)
+abbrev pub wedge_at : List Sent → Strip → (k : ℕ) → Xml
+wedge_at ts s k = wedge_for ts s (slice_get ts k)
 
 -- a wedge for each transmission in the MAP, at its minislot, and for no other one
-abbrev pub wedges : List Sent → (ch left start len y : ℕ) → Xml
-wedges ts ch left start len y = each (length ts) (wedge_at ts ch left start len y)
+abbrev pub wedges : List Sent → Strip → Xml
+wedges ts s = each (length ts) (wedge_at ts s)
 
 -- ---- how they are found
 

@@ -1,5 +1,6 @@
 -- The windows of a lease, as `stats` counts them: by their numbers, from 0 on.
-use Rattle.std.specs.Prelude.{ℕ, ◌+◌, ◌-◌, ◌*◌, ◌/◌, ◌==◌, ◌&&◌, nat_le, nat_lt, not, Bool, true, if◌then◌else◌, max, min, List, [], ◌∷◌, flat_map, codes, Option, Some, None}
+use Rattle.std.specs.Prelude.{ℕ, ◌+◌, ◌-◌, ◌*◌, ◌/◌, ◌==◌, ◌&&◌, nat_le, nat_lt, not, Bool, true, if◌then◌else◌, max}
+use Rattle.std.specs.Prelude.{min, List, [], ◌∷◌, flat_map, codes, Option, Some, None}
 use Rattle.std.specs.List.{list_any}
 use Rattle.flow_state.specs.declared.flow.FlowKind.{FlowKind}
 use Rattle.flow_state.specs.declared.flow.FlowKind.TheVariants.{BestEffort, Ugs, Poll, Station, Initial}
@@ -14,8 +15,7 @@ use Rattle.xml_text.specs.Xml.{Xml, shape}
 use Rattle.xml_text.specs.Xml.Tag.{Rectangle}
 use Rattle.xml_text.specs.Xml.Xml.{Nothing}
 use Rattle.xml_text.specs.Each.{each}
-use Rattle.map_picture.specs.declared.axis.Axis.{Axis}
-use Rattle.map_picture.specs.declared.axis.Page.{Page}
+use Rattle.map_picture.specs.declared.owners.Owner.{Owner}
 use Rattle.map_picture.specs.declared.windows.Dues.{Dues}
 use Rattle.map_picture.specs.Axis.{at, wide}
 use Rattle.map_picture.specs.Picked.{is_granted}
@@ -75,21 +75,24 @@ is_missed w until found k = nat_lt k (windows_past w until) && not (list_any (be
 abbrev pub window_class : Bool → List ℕ
 window_class missed = if missed then codes "missed" else codes "due"
 
--- a line from the due time to the jitter later, as far as that is before the flow ends
-abbrev pub window : Axis → (y : ℕ) → Windows → (until : ℕ) → (found : List ℕ) → (k : ℕ) → Xml
-window axis y w until found k =
-    shape (Rectangle (at axis (due w k)) (y + 15) (wide axis (due w k) (min (due w k + w.jitter) until)) 2 0 (window_class (is_missed w until found k)))
+-- a line below the row
+abbrev pub stroke : Owner → (from to : ℕ) → (missed : Bool) → Xml
+stroke o from to missed = shape (Rectangle (at o.page.axis from) (o.y + 15) (wide o.page.axis from to) 2 (window_class missed))
 
-abbrev pub window_at : Axis → (y : ℕ) → Windows → (until : ℕ) → (found : List ℕ) → (first i : ℕ) → Xml
-window_at axis y w until found first i = window axis y w until found (first + i)
+-- from the due time to the jitter later, as far as that is before the flow ends
+abbrev pub window : Owner → Windows → (found : List ℕ) → (k : ℕ) → Xml
+window o w found k = stroke o (due w k) (min (due w k + w.jitter) o.row.until) (is_missed w o.row.until found k)
 
-abbrev pub windows_from : Axis → (y : ℕ) → Windows → (until : ℕ) → (found : List ℕ) → (first : ℕ) → Xml
-windows_from axis y w until found first = each (window_count w until first) (window_at axis y w until found first)
+abbrev pub window_at : Owner → Windows → (found : List ℕ) → (first i : ℕ) → Xml
+window_at o w found first i = window o w found (first + i)
 
-abbrev pub windows_with : Page → List Deed → (y : ℕ) → LeaseRow → Option Windows → Xml
-windows_with p ds y l (Some w) = windows_from p.axis y w l.until (starts p.ch l ds) (first_window p.axis.span.from w)
-windows_with p ds y l None = Nothing
+abbrev pub windows_from : Owner → Windows → (found : List ℕ) → (first : ℕ) → Xml
+windows_from o w found first = each (window_count w o.row.until first) (window_at o w found first)
+
+abbrev pub windows_with : List Deed → Owner → Option Windows → Xml
+windows_with ds o (Some w) = windows_from o w (starts o.page.ch o.row ds) (first_window o.page.axis.span.from w)
+windows_with ds o None = Nothing
 
 -- those of a lease
-abbrev pub windows : Page → List Deed → (y : ℕ) → LeaseRow → Xml
-windows p ds y l = windows_with p ds y l (windows_of l.lease.kind)
+abbrev pub windows : List Deed → Owner → Xml
+windows ds o = windows_with ds o (windows_of o.row.lease.kind)

@@ -2,6 +2,7 @@
 
 ghost use Rattle.std.specs.Prelude.{◌≡◌, ◌++◌, ◌<◌, ◌^◌, IfOk, OnOk, string_bytes};
 ghost use Rattle.xml_text.specs.Xml.{render};
+ghost use Rattle.plan_account.specs.Accounts.{why_last};
 ghost use Rattle.map_picture.specs.Asked.{asked, asked_line, asked_marks, asked_name, asked_words, bar, before_at};
 ghost use Rattle.map_picture.specs.Asked.{before_words, end_mark, end_words, ended_at, ended_words, last_told};
 ghost use Rattle.map_picture.specs.Asked.{marks_at, sent_mark, sent_title, sent_x, stop, told_mark, told_title};
@@ -12,7 +13,7 @@ use crate::shapes::class_of;
 use crate::words::sid_of;
 use plan_account::{Fate, RequestRow, Told, Why, why_last, why_words};
 use std::alloc::{AllocError, Global};
-use xml_text::{add_line, add_rectangle, add_titled_circle, add_words};
+use xml_text::{Area, Disc, add_line, add_rectangle, add_titled_circle, add_words};
 
 fn last_told(sent: u64, told: Option<Told>) -> u64
     ensures { result ≡ last_told sent told }
@@ -139,7 +140,8 @@ fn add_sent_mark(
 {
     let title = sent_title(alloc, row)?;
     let middle = (sent_x(axis, row.sent), y + 7);
-    add_titled_circle(alloc, out, title.as_str(), middle, 4, "sent")
+    let dot = Disc { middle, radius: 4 };
+    add_titled_circle(alloc, out, title.as_str(), dot, "sent")
 }
 
 fn told_title(alloc: Global, start: u64, why: Option<Why>) -> Result<String, AllocError>
@@ -160,18 +162,19 @@ fn add_told_mark(
     out: &mut String,
     axis: Axis,
     y: u64,
-    told: Option<Told>,
-    why: Option<Why>,
+    row: &RequestRow,
 ) -> Result<(), AllocError>
     requires { y < 2 ^ 62 }
-    ensures { OnOk result (string_bytes out.new ≡ string_bytes out.old ++ render (told_mark axis y told why)) }
+    ensures { OnOk result (string_bytes out.new ≡ string_bytes out.old
+        ++ render (told_mark axis y row.now.told (why_last row.now.told row.now.fate))) }
 {
-    let Some(told) = told else {
+    let Some(told) = row.told else {
         return Ok(());
     };
-    let title = told_title(alloc, told.start, why)?;
+    let title = told_title(alloc, told.start, why_last(row))?;
     let middle = (at(axis, told.start), y + 7);
-    add_titled_circle(alloc, out, title.as_str(), middle, 4, "ring")
+    let ring = Disc { middle, radius: 4 };
+    add_titled_circle(alloc, out, title.as_str(), ring, "ring")
 }
 
 fn add_bar(
@@ -183,8 +186,11 @@ fn add_bar(
 ) -> Result<(), AllocError>
     ensures { OnOk result (string_bytes out.new ≡ string_bytes out.old ++ render (bar axis y row.now)) }
 {
-    let x = at(axis, stop(axis, row));
-    add_rectangle(alloc, out, (x, y), (3, 14), 0, "bad")
+    let area = Area {
+        corner: (at(axis, stop(axis, row)), y),
+        size: (3, 14),
+    };
+    add_rectangle(alloc, out, area, "bad")
 }
 
 /// A block where it is granted, or else a red bar.
@@ -202,9 +208,11 @@ fn add_end_mark(
         Fate::Gone => add_bar(alloc, out, axis, y, row),
         Fate::Granted { start, .. } => {
             let to = start.saturating_add(u64::from(row.n));
-            let size = (wide(axis, start, to), 14);
-            let class = class_of(sid_of(row.key));
-            add_rectangle(alloc, out, (at(axis, start), y), size, 0, class)
+            let area = Area {
+                corner: (at(axis, start), y),
+                size: (wide(axis, start, to), 14),
+            };
+            add_rectangle(alloc, out, area, class_of(sid_of(row.key)))
         }
     }
 }
@@ -270,7 +278,7 @@ fn add_marks(
     add_asked_line(alloc, out, axis, y, row)?;
     add_before(alloc, out, axis, y, row)?;
     add_sent_mark(alloc, out, axis, y, row)?;
-    add_told_mark(alloc, out, axis, y, row.told, why_last(row))?;
+    add_told_mark(alloc, out, axis, y, row)?;
     add_end_mark(alloc, out, axis, y, row)?;
     Ok(())
 }

@@ -1,7 +1,8 @@
 //! Where the columns of a channel are, and how wide a picture is.
 
 ghost use Rattle.std.specs.Prelude.{◌≡◌, ◌<◌, ◌^◌, max, length, IfOk};
-ghost use Rattle.map_picture.specs.Columns.{columns_by, columns_of, gutter, longest_asked, longest_before, longest_owner, names_end, OwnersFit};
+ghost use Rattle.map_picture.specs.Columns.{columns_by, columns_of, gutter, longest_asked, longest_before};
+ghost use Rattle.map_picture.specs.Columns.{longest_owner, names_end, OwnersFit};
 
 use crate::asked::{asked_words, before_words};
 use crate::axis::{Columns, Span};

@@ -4,23 +4,48 @@ ghost use Rattle.std.specs.Prelude.{◌≡◌, ◌++◌, ◌+◌, ◌*◌, ◌<�
 ghost use Rattle.std.specs.List.Sorted.{IsPermutation};
 ghost use Rattle.xml_text.specs.Xml.{Xml, render};
 ghost use Rattle.xml_text.specs.Drawings.{AreDrawn};
-ghost use Rattle.xml_text.specs.Each.{each};
 ghost use Rattle.plan_account.specs.Deeds.{channels_of};
-ghost use Rattle.map_picture.specs.Pictures.{channel, channel_at, channel_height, channel_rows, channels_drawn, first_top, heading, layers, tops_from, IsDrawable, IsPictureOf};
+ghost use Rattle.map_picture.specs.Pictures.{channel, channel_at, channel_height, channel_rows, channels_drawn};
+ghost use Rattle.map_picture.specs.Pictures.{first_top, heading, layers, stack_of, stacked, tops_from};
+ghost use Rattle.map_picture.specs.Pictures.{IsDrawable, IsPictureOf, IsRendered};
 ghost use Rattle.map_picture.specs.Wedges.{IsInOrder};
 
 use crate::axis::{Axis, Page, span_of};
 use crate::columns::columns_of;
 use crate::legend::legend_for;
 use crate::picked::{leases_on, maps_on, requests_on};
-use crate::rows::{add_frames, add_owners, add_requests, add_strips};
+use crate::rows::{OnChannel, add_frames, add_owners, add_requests, add_strips};
 use crate::scales::{add_no_map, add_scale, numbers};
 use crate::sent::{Sent, in_order};
 use crate::style::{STYLE, patterns};
 use crate::widths::width_of;
-use plan_account::{Account, Deed, LeaseRow, RequestRow, channels_of};
+use plan_account::{Account, channels_of};
 use std::alloc::{AllocError, Global};
-use xml_text::{Layers, add_words, drawing};
+use std::marker::Model;
+use xml_text::{Layers, Sheet, add_words, drawing};
+
+/// Channels one below the other: those of an account with what modems sent in order, where each begins, and where the
+/// last one ends.
+#[derive(Drop)]
+struct Channels<'a> {
+    account: &'a Account,
+    sent: &'a [Sent],
+    channels: &'a [u8],
+    tops: &'a [u64],
+}
+
+impl<'a> Model for Channels<'a> {
+    ghost use Rattle.map_picture.specs.Pictures.{Stack};
+
+    ghost Value = { Stack };
+
+    ghost view = { λ c. record {
+      account = c.account.now;
+      sent = c.sent.now;
+      channels = c.channels.now;
+      tops = c.tops.now;
+    } };
+}
 
 fn channel_height(alloc: Global, account: &Account, ch: u8) -> Result<u64, AllocError>
     requires { IsDrawable account.now }
@@ -61,145 +86,117 @@ fn add_heading(alloc: Global, out: &mut String, ch: u8, y: u64) -> Result<(), Al
 fn add_rows(
     alloc: Global,
     out: &mut String,
-    page: Page,
-    deeds: &[Deed],
-    numbers: &[u64],
-    sent: &[Sent],
+    channel: &OnChannel<'_>,
     y: u64,
-    owners: &[LeaseRow],
-    requests: &[RequestRow],
-    maps: &[usize],
 ) -> Result<(), AllocError>
     requires y { y < 2 ^ 60 }
-    requires deeds { length deeds.now < 2 ^ 27 }
-    requires few_owners { length owners.now < 2 ^ 27 }
-    requires few_requests { length requests.now < 2 ^ 27 }
-    requires few_maps { length maps.now < 2 ^ 27 }
-    requires order { IsInOrder sent.now }
-    ensures { OnOk result (string_bytes out.new ≡ string_bytes out.old
-        ++ render (channel_rows page deeds.now numbers.now sent.now y owners.now requests.now maps.now)) }
+    requires deeds { length channel.now.deeds < 2 ^ 27 }
+    requires owners { length channel.now.owners < 2 ^ 27 }
+    requires requests { length channel.now.requests < 2 ^ 27 }
+    requires maps { length channel.now.maps < 2 ^ 27 }
+    requires order { IsInOrder channel.now.sent }
+    ensures { OnOk result (string_bytes out.new ≡ string_bytes out.old ++ render (channel_rows channel.now y)) }
 {
-    let first = 22 * (owners.len() as u64);
-    let second = 22 * (requests.len() as u64);
-    add_heading(alloc, out, page.ch, y)?;
-    add_no_map(alloc, out, page.axis, y)?;
-    add_scale(alloc, out, page.axis, y, numbers)?;
-    add_frames(alloc, out, page, deeds, y + 42, first + second + 2, maps)?;
-    add_owners(alloc, out, page, deeds, y + 46, owners)?;
-    add_requests(alloc, out, page.axis, y + 46 + first, requests)?;
-    let (columns, below) = (page.axis.columns, y + 60 + first + second);
-    add_strips(alloc, out, deeds, columns, numbers, sent, below, maps)?;
+    let first = 22 * (channel.owners.len() as u64);
+    let second = 22 * (channel.requests.len() as u64);
+    let axis = channel.page.axis;
+    add_heading(alloc, out, channel.page.ch, y)?;
+    add_no_map(alloc, out, axis, y)?;
+    add_scale(alloc, out, axis, y, channel.numbers)?;
+    add_frames(alloc, out, channel, (y + 42, first + second + 2))?;
+    add_owners(alloc, out, channel, y + 46)?;
+    add_requests(alloc, out, channel, y + 46 + first)?;
+    add_strips(alloc, out, channel, y + 60 + first + second)?;
     Ok(())
 }
 
 fn add_channel(
     alloc: Global,
     out: &mut String,
-    account: &Account,
-    sent: &[Sent],
+    all: &Channels<'_>,
     ch: u8,
     y: u64,
 ) -> Result<(), AllocError>
     requires y { y < 2 ^ 60 }
-    requires rows { IsDrawable account.now }
-    requires order { IsInOrder sent.now }
-    ensures { OnOk result (string_bytes out.new ≡ string_bytes out.old ++ render (channel account.now sent.now ch y)) }
+    requires rows { IsDrawable all.now.account }
+    requires order { IsInOrder all.now.sent }
+    ensures { OnOk result (string_bytes out.new ≡ string_bytes out.old ++ render (channel all.now.account all.now.sent ch y)) }
 {
-    let deeds = account.deeds();
-    let owners = leases_on(alloc, ch, account.leases())?;
-    let requests = requests_on(alloc, ch, account.requests())?;
+    let deeds = all.account.deeds();
+    let owners = leases_on(alloc, ch, all.account.leases())?;
+    let requests = requests_on(alloc, ch, all.account.requests())?;
     let maps = maps_on(alloc, ch, deeds)?;
     let span = span_of(deeds, ch);
     let columns = columns_of(alloc, span, &owners, &requests)?;
     let axis = Axis { columns, span };
-    let page = Page { ch, axis };
-    let marked = numbers(alloc, span)?;
-    add_rows(
-        alloc, out, page, deeds, &marked, sent, y, &owners, &requests, &maps,
-    )?;
-    Ok(())
+    let numbers = numbers(alloc, span)?;
+    let channel = OnChannel {
+        page: Page { ch, axis },
+        deeds,
+        numbers: numbers.as_slice(),
+        sent: all.sent,
+        owners: owners.as_slice(),
+        requests: requests.as_slice(),
+        maps: maps.as_slice(),
+    };
+    add_rows(alloc, out, &channel, y)
 }
 
 fn add_channel_at(
     alloc: Global,
     out: &mut String,
-    account: &Account,
-    sent: &[Sent],
-    channels: &[u8],
-    tops: &[u64],
+    all: &Channels<'_>,
     k: usize,
 ) -> Result<(), AllocError>
-    requires rows { IsDrawable account.now }
-    requires order { IsInOrder sent.now }
-    ensures { OnOk result (string_bytes out.new ≡ string_bytes out.old ++ render (channel_at account.now sent.now channels.now tops.now k)) }
+    requires rows { IsDrawable all.now.account }
+    requires order { IsInOrder all.now.sent }
+    ensures { OnOk result (string_bytes out.new ≡ string_bytes out.old ++ render (channel_at all.now k)) }
 {
-    if k >= channels.len() {
+    if k >= all.channels.len() {
         return Ok(());
     }
-    if k >= tops.len() {
+    if k >= all.tops.len() {
         return Ok(());
     }
-    if tops[k] >= 1 << 60 {
+    if all.tops[k] >= 1 << 60 {
         return Err(AllocError);
     }
-    add_channel(alloc, out, account, sent, channels[k], tops[k])
+    add_channel(alloc, out, all, all.channels[k], all.tops[k])
 }
 
-fn add_channels(
-    alloc: Global,
-    out: &mut String,
-    account: &Account,
-    sent: &[Sent],
-    channels: &[u8],
-    tops: &[u64],
-) -> Result<(), AllocError>
-    requires rows { IsDrawable account.now }
-    requires order { IsInOrder sent.now }
-    ensures { OnOk result (string_bytes out.new ≡ string_bytes out.old
-        ++ render (each (length channels.now) (channel_at account.now sent.now channels.now tops.now))) }
+fn add_channels(alloc: Global, out: &mut String, all: &Channels<'_>) -> Result<(), AllocError>
+    requires rows { IsDrawable all.now.account }
+    requires order { IsInOrder all.now.sent }
+    ensures { OnOk result (string_bytes out.new ≡ string_bytes out.old ++ render (stacked all.now)) }
 {
-    for k in 0..channels.len() {
-        add_channel_at(alloc, out, account, sent, channels, tops, k)?;
+    for k in 0..all.channels.len() {
+        add_channel_at(alloc, out, all, k)?;
     }
     Ok(())
 }
 
 /// The channels of an account.
-fn channels_drawn(
-    alloc: Global,
-    account: &Account,
-    sent: &[Sent],
-    channels: &[u8],
-    tops: &[u64],
-) -> Result<String, AllocError>
-    requires rows { IsDrawable account.now }
-    requires channels { channels.now ≡ channels_of account.now.deeds }
-    requires tops { tops.now ≡ tops_from account.now first_top channels.now }
-    requires order { IsInOrder sent.now }
-    ensures { IfOk result (λ text. string_bytes text ≡ render (channels_drawn account.now sent.now)) }
+fn channels_drawn(alloc: Global, all: &Channels<'_>) -> Result<String, AllocError>
+    requires rows { IsDrawable all.now.account }
+    requires stack { all.now ≡ stack_of all.now.account all.now.sent }
+    requires order { IsInOrder all.now.sent }
+    ensures { IfOk result (λ text. string_bytes text ≡ render (channels_drawn all.now.account all.now.sent)) }
 {
     let mut out = String::new(alloc);
-    add_channels(alloc, &mut out, account, sent, channels, tops)?;
+    add_channels(alloc, &mut out, all)?;
     Ok(out)
 }
 
 /// The layers of a picture: channels below a legend.
-fn layers_of(
-    alloc: Global,
-    account: &Account,
-    sent: &[Sent],
-    channels: &[u8],
-    tops: &[u64],
-) -> Result<Layers, AllocError>
-    requires rows { IsDrawable account.now }
-    requires channels { channels.now ≡ channels_of account.now.deeds }
-    requires tops { tops.now ≡ tops_from account.now first_top channels.now }
-    requires order { IsInOrder sent.now }
-    ensures { IfOk result (λ all. (known : Xml) × AreDrawn all (layers account.now sent.now known)) }
+fn layers_of(alloc: Global, all: &Channels<'_>) -> Result<Layers, AllocError>
+    requires rows { IsDrawable all.now.account }
+    requires stack { all.now ≡ stack_of all.now.account all.now.sent }
+    requires order { IsInOrder all.now.sent }
+    ensures { IfOk result (λ drawn. (known : Xml) × AreDrawn drawn (layers all.now.account all.now.sent known)) }
 {
-    let title = format!(in alloc; "The MAPs of {} commands", account.deeds().len())?;
-    let bands = channels_drawn(alloc, account, sent, channels, tops)?;
-    let labels = legend_for(alloc, title.as_str(), !sent.is_empty())?;
+    let title = format!(in alloc; "The MAPs of {} commands", all.account.deeds().len())?;
+    let bands = channels_drawn(alloc, all)?;
+    let labels = legend_for(alloc, title.as_str(), !all.sent.is_empty())?;
     Ok(Layers {
         rules: String::new(alloc),
         bands,
@@ -209,24 +206,51 @@ fn layers_of(
     })
 }
 
-/// The picture of layers in this size, with a title and a style. The layers have what was sent in order.
-fn drawn_so(
+/// How wide and how high the picture of channels is.
+fn size_of(alloc: Global, all: &Channels<'_>) -> Result<(u64, u64), AllocError> {
+    let height = match all.tops.last() {
+        Some(top) => *top,
+        None => 0,
+    };
+    Ok((width_of(alloc, all.account, all.channels)?, height))
+}
+
+/// The picture of layers on a sheet. They are those of channels with what was sent in order, of which this is what was
+/// sent in its own order.
+fn drawn_on(
     alloc: Global,
-    account: &Account,
+    sheet: &Sheet<'_>,
+    drawn: &Layers,
+    all: &Channels<'_>,
     sent: &[Sent],
-    ordered: &[Sent],
-    size: (u64, u64),
-    title: &str,
-    style: &str,
-    all: &Layers,
 ) -> Result<String, AllocError>
-    requires same { IsPermutation sent.now ordered.now }
-    requires drawn { (known : Xml) × AreDrawn all.now (layers account.now ordered.now known) }
-    ensures { IfOk result (λ text. IsPictureOf account.now sent.now (string_bytes text)) }
+    requires same { IsPermutation sent.now all.now.sent }
+    requires definitions { IsRendered sheet.now.definitions.now }
+    requires drawn { (known : Xml) × AreDrawn drawn.now (layers all.now.account all.now.sent known) }
+    ensures { IfOk result (λ text. IsPictureOf all.now.account sent.now (string_bytes text)) }
 {
-    let known = patterns(alloc)?;
-    let text = drawing(alloc, size, title, style, known.as_str(), all)?;
+    let text = drawing(alloc, sheet, drawn)?;
     Ok(text)
+}
+
+/// The picture of channels with what was sent in order, of which this is what was sent in its own order.
+fn drawn_so(alloc: Global, all: &Channels<'_>, sent: &[Sent]) -> Result<String, AllocError>
+    requires rows { IsDrawable all.now.account }
+    requires stack { all.now ≡ stack_of all.now.account all.now.sent }
+    requires same { IsPermutation sent.now all.now.sent }
+    requires order { IsInOrder all.now.sent }
+    ensures { IfOk result (λ text. IsPictureOf all.now.account sent.now (string_bytes text)) }
+{
+    let drawn = layers_of(alloc, all)?;
+    let known = patterns(alloc)?;
+    let size = size_of(alloc, all)?;
+    let sheet = Sheet {
+        size,
+        title: "upsched MAPs",
+        style: STYLE,
+        definitions: known.as_str(),
+    };
+    drawn_on(alloc, &sheet, &drawn, all, sent)
 }
 
 /// The picture of what was sent and is now in order.
@@ -246,22 +270,13 @@ fn drawn_in_order(
         return Err(AllocError);
     }
     let tops = tops_of(alloc, account, &channels)?;
-    let all = layers_of(alloc, account, ordered, &channels, &tops)?;
-    let height = match tops.last() {
-        Some(top) => *top,
-        None => 0,
-    };
-    let size = (width_of(alloc, account, &channels)?, height);
-    drawn_so(
-        alloc,
+    let all = Channels {
         account,
-        sent,
-        ordered,
-        size,
-        "upsched MAPs",
-        STYLE,
-        &all,
-    )
+        sent: ordered,
+        channels: channels.as_slice(),
+        tops: tops.as_slice(),
+    };
+    drawn_so(alloc, &all, sent)
 }
 
 /// The picture of what commands did, and of what modems sent in the minislots of their MAPs, as an SVG document. What

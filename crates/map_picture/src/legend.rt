@@ -4,7 +4,7 @@ ghost use Rattle.std.specs.Prelude.{OnOk, IfOk, string_bytes};
 ghost use Rattle.map_picture.specs.Pictures.{IsRendered};
 
 use std::alloc::{AllocError, Global};
-use xml_text::{add_circle, add_path, add_rectangle, add_words};
+use xml_text::{Area, Disc, add_circle, add_path, add_rectangle, add_words};
 
 /// What is drawn before words: a rectangle of a size, so far below the top of a row, a circle, or a wedge.
 #[derive(Clone, Copy)]
@@ -131,17 +131,11 @@ fn base_of(line: Line) -> u64 {
     }
 }
 
-fn add_box(
-    alloc: Global,
-    out: &mut String,
-    corner: (u64, u64),
-    size: (u64, u64),
-    class: &str,
-) -> Result<(), AllocError>
+fn add_box(alloc: Global, out: &mut String, area: Area, class: &str) -> Result<(), AllocError>
     requires { IsRendered (string_bytes out.now) }
     ensures { OnOk result (IsRendered (string_bytes out.new)) }
 {
-    add_rectangle(alloc, out, corner, size, 0, class)?;
+    add_rectangle(alloc, out, area, class)?;
     Ok(())
 }
 
@@ -154,7 +148,7 @@ fn add_dot(
     requires { IsRendered (string_bytes out.now) }
     ensures { OnOk result (IsRendered (string_bytes out.new)) }
 {
-    add_circle(alloc, out, middle, 4, class)?;
+    add_circle(alloc, out, Disc { middle, radius: 4 }, class)?;
     Ok(())
 }
 
@@ -188,7 +182,8 @@ fn add_sample(alloc: Global, out: &mut String, item: &Item, base: u64) -> Result
     match item.sample {
         Sample::Rectangle(down, size) => {
             let y = base.saturating_sub(9).saturating_add(down);
-            add_box(alloc, out, (x, y), size, item.class)
+            let corner = (x, y);
+            add_box(alloc, out, Area { corner, size }, item.class)
         }
         Sample::Circle => {
             let middle = (x.saturating_add(5), base.saturating_sub(4));

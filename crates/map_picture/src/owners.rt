@@ -2,11 +2,11 @@
 
 ghost use Rattle.std.specs.Prelude.{◌≡◌, ◌++◌, ◌<◌, ◌^◌, IfOk, OnOk, string_bytes};
 ghost use Rattle.xml_text.specs.Xml.{render};
-ghost use Rattle.map_picture.specs.Owners.{flow_at, flow_words, grant_at, grant_mark, grant_title, grants, grants_at};
-ghost use Rattle.map_picture.specs.Owners.{grants_in, grants_of, kind_words, missed_words, owner, owner_name_at};
+ghost use Rattle.map_picture.specs.Owners.{flow_at, flow_words, grant, grant_mark, grant_title, grants, grants_at};
+ghost use Rattle.map_picture.specs.Owners.{grants_in, grants_of, kind_words, missed_words, owner_name_at, owner_row};
 ghost use Rattle.map_picture.specs.Owners.{owner_words};
 
-use crate::axis::{Axis, Page, at, right, wide};
+use crate::axis::{Page, at, right, wide};
 use crate::picked::is_granted;
 use crate::shapes::{add_block, class_of, high};
 use crate::windows::add_windows;
@@ -14,7 +14,15 @@ use flow_state::FlowKind;
 use map_body::Interval;
 use plan_account::{Deed, LeaseRow};
 use std::alloc::{AllocError, Global};
-use xml_text::add_words;
+use xml_text::{Area, add_words};
+
+/// The row of a lease: the page that it is on, where it begins, and the lease.
+#[derive(Clone, Copy)]
+pub(crate) struct Owner {
+    pub page: Page,
+    pub y: u64,
+    pub row: LeaseRow,
+}
 
 /// What a flow is.
 fn kind_words(alloc: Global, kind: FlowKind) -> Result<String, AllocError>
@@ -62,66 +70,55 @@ fn grant_title(alloc: Global, start: u64, interval: &Interval) -> Result<String,
 fn add_grant_mark(
     alloc: Global,
     out: &mut String,
-    axis: Axis,
+    owner: &Owner,
     start: u64,
-    y: u64,
     interval: &Interval,
 ) -> Result<(), AllocError>
     requires { start < 2 ^ 63 }
-    ensures { OnOk result (string_bytes out.new ≡ string_bytes out.old ++ render (grant_mark axis start y interval.now)) }
+    ensures { OnOk result (string_bytes out.new ≡ string_bytes out.old ++ render (grant_mark owner.now start interval.now)) }
 {
     let title = grant_title(alloc, start, interval)?;
+    let axis = owner.page.axis;
     let from = start + u64::from(interval.from.get());
     let to = start + u64::from(interval.to.get());
-    let size = (wide(axis, from, to), high(interval));
-    let corner = (at(axis, from), y);
-    add_block(
-        alloc,
-        out,
-        title.as_str(),
-        corner,
-        size,
-        class_of(interval.sid.get()),
-    )
+    let area = Area {
+        corner: (at(axis, from), owner.y),
+        size: (wide(axis, from, to), high(interval)),
+    };
+    let class = class_of(interval.sid.get());
+    add_block(alloc, out, title.as_str(), area, class)
 }
 
-fn add_grant_at(
+/// The mark of an interval, if it is granted to the lease.
+fn add_grant(
     alloc: Global,
     out: &mut String,
-    axis: Axis,
-    row: &LeaseRow,
+    owner: &Owner,
     start: u64,
-    y: u64,
-    intervals: &[Interval],
-    k: usize,
+    interval: &Interval,
 ) -> Result<(), AllocError>
     requires { start < 2 ^ 63 }
-    ensures { OnOk result (string_bytes out.new ≡ string_bytes out.old ++ render (grant_at axis row.now start y intervals.now k)) }
+    ensures { OnOk result (string_bytes out.new ≡ string_bytes out.old ++ render (grant owner.now start interval.now)) }
 {
-    if k >= intervals.len() {
+    if !is_granted(&owner.row, start, interval) {
         return Ok(());
     }
-    if !is_granted(row, start, &intervals[k]) {
-        return Ok(());
-    }
-    add_grant_mark(alloc, out, axis, start, y, &intervals[k])
+    add_grant_mark(alloc, out, owner, start, interval)
 }
 
 /// The marks of the intervals of a lease.
 fn add_grants_in(
     alloc: Global,
     out: &mut String,
-    axis: Axis,
-    row: &LeaseRow,
+    owner: &Owner,
     start: u64,
-    y: u64,
     intervals: &[Interval],
 ) -> Result<(), AllocError>
     requires { start < 2 ^ 63 }
-    ensures { OnOk result (string_bytes out.new ≡ string_bytes out.old ++ render (grants_in axis row.now start y intervals.now)) }
+    ensures { OnOk result (string_bytes out.new ≡ string_bytes out.old ++ render (grants_in owner.now start intervals.now)) }
 {
     for k in 0..intervals.len() {
-        add_grant_at(alloc, out, axis, row, start, y, intervals, k)?;
+        add_grant(alloc, out, owner, start, &intervals[k])?;
     }
     Ok(())
 }
@@ -130,19 +127,17 @@ fn add_grants_in(
 fn add_grants_of(
     alloc: Global,
     out: &mut String,
-    page: Page,
-    row: &LeaseRow,
-    y: u64,
+    owner: &Owner,
     deed: &Deed,
 ) -> Result<(), AllocError>
-    ensures { OnOk result (string_bytes out.new ≡ string_bytes out.old ++ render (grants_of page row.now y deed.now)) }
+    ensures { OnOk result (string_bytes out.new ≡ string_bytes out.old ++ render (grants_of owner.now deed.now)) }
 {
     match deed {
         Deed::Map { ch, start, map, .. } => {
-            if *ch != page.ch {
+            if *ch != owner.page.ch {
                 return Ok(());
             }
-            add_grants_in(alloc, out, page.axis, row, start.get(), y, map.intervals())
+            add_grants_in(alloc, out, owner, start.get(), map.intervals())
         }
         Deed::Channel(_) => Ok(()),
         Deed::Flow { .. } => Ok(()),
@@ -155,33 +150,29 @@ fn add_grants_of(
 fn add_grants_at(
     alloc: Global,
     out: &mut String,
-    page: Page,
+    owner: &Owner,
     deeds: &[Deed],
-    row: &LeaseRow,
-    y: u64,
     i: usize,
 ) -> Result<(), AllocError>
-    ensures { OnOk result (string_bytes out.new ≡ string_bytes out.old ++ render (grants_at page deeds.now row.now y i)) }
+    ensures { OnOk result (string_bytes out.new ≡ string_bytes out.old ++ render (grants_at deeds.now owner.now i)) }
 {
     if i >= deeds.len() {
         return Ok(());
     }
-    add_grants_of(alloc, out, page, row, y, &deeds[i])
+    add_grants_of(alloc, out, owner, &deeds[i])
 }
 
 /// A mark for each grant in a lease.
 fn add_grants(
     alloc: Global,
     out: &mut String,
-    page: Page,
+    owner: &Owner,
     deeds: &[Deed],
-    row: &LeaseRow,
-    y: u64,
 ) -> Result<(), AllocError>
-    ensures { OnOk result (string_bytes out.new ≡ string_bytes out.old ++ render (grants page deeds.now row.now y)) }
+    ensures { OnOk result (string_bytes out.new ≡ string_bytes out.old ++ render (grants deeds.now owner.now)) }
 {
     for i in 0..deeds.len() {
-        add_grants_at(alloc, out, page, deeds, row, y, i)?;
+        add_grants_at(alloc, out, owner, deeds, i)?;
     }
     Ok(())
 }
@@ -194,18 +185,12 @@ pub(crate) fn owner_words(alloc: Global, row: &LeaseRow) -> Result<String, Alloc
     format!(in alloc; "sid {sid}, modem {modem}")
 }
 
-fn add_owner_name(
-    alloc: Global,
-    out: &mut String,
-    axis: Axis,
-    row: &LeaseRow,
-    y: u64,
-) -> Result<(), AllocError>
-    requires { y < 2 ^ 62 }
-    ensures { OnOk result (string_bytes out.new ≡ string_bytes out.old ++ render (owner_name_at axis row.now y)) }
+fn add_owner_name(alloc: Global, out: &mut String, owner: &Owner) -> Result<(), AllocError>
+    requires { owner.now.y < 2 ^ 62 }
+    ensures { OnOk result (string_bytes out.new ≡ string_bytes out.old ++ render (owner_name_at owner.now)) }
 {
-    let words = owner_words(alloc, row)?;
-    let point = (u64::from(axis.columns.names), y + 11);
+    let words = owner_words(alloc, &owner.row)?;
+    let point = (u64::from(owner.page.axis.columns.names), owner.y + 11);
     add_words(alloc, out, point, "s e", words.as_str())
 }
 
@@ -228,18 +213,12 @@ pub(crate) fn flow_words(alloc: Global, row: &LeaseRow) -> Result<String, AllocE
     format!(in alloc; "{kind}{missed}")
 }
 
-fn add_flow(
-    alloc: Global,
-    out: &mut String,
-    axis: Axis,
-    row: &LeaseRow,
-    y: u64,
-) -> Result<(), AllocError>
-    requires { y < 2 ^ 62 }
-    ensures { OnOk result (string_bytes out.new ≡ string_bytes out.old ++ render (flow_at axis row.now y)) }
+fn add_flow(alloc: Global, out: &mut String, owner: &Owner) -> Result<(), AllocError>
+    requires { owner.now.y < 2 ^ 62 }
+    ensures { OnOk result (string_bytes out.new ≡ string_bytes out.old ++ render (flow_at owner.now)) }
 {
-    let words = flow_words(alloc, row)?;
-    let point = (right(axis.columns), y + 11);
+    let words = flow_words(alloc, &owner.row)?;
+    let point = (right(owner.page.axis.columns), owner.y + 11);
     add_words(alloc, out, point, "s mute", words.as_str())
 }
 
@@ -247,17 +226,15 @@ fn add_flow(
 pub(crate) fn add_owner(
     alloc: Global,
     out: &mut String,
-    page: Page,
+    owner: &Owner,
     deeds: &[Deed],
-    y: u64,
-    row: &LeaseRow,
 ) -> Result<(), AllocError>
-    requires { y < 2 ^ 62 }
-    ensures { OnOk result (string_bytes out.new ≡ string_bytes out.old ++ render (owner page deeds.now y row.now)) }
+    requires { owner.now.y < 2 ^ 62 }
+    ensures { OnOk result (string_bytes out.new ≡ string_bytes out.old ++ render (owner_row deeds.now owner.now)) }
 {
-    add_owner_name(alloc, out, page.axis, row, y)?;
-    add_windows(alloc, out, page, deeds, y, row)?;
-    add_grants(alloc, out, page, deeds, row, y)?;
-    add_flow(alloc, out, page.axis, row, y)?;
+    add_owner_name(alloc, out, owner)?;
+    add_windows(alloc, out, owner, deeds)?;
+    add_grants(alloc, out, owner, deeds)?;
+    add_flow(alloc, out, owner)?;
     Ok(())
 }

@@ -1,36 +1,69 @@
 //! Rows of leases, of requests and of MAPs, and frames round them.
 
-ghost use Rattle.std.specs.Prelude.{◌≡◌, ◌++◌, ◌<◌, ◌^◌, IfOk, OnOk, length, slice_get, string_bytes};
+ghost use Rattle.std.specs.Prelude.{◌≡◌, ◌++◌, ◌<◌, ◌^◌, IfOk, OnOk, length, string_bytes};
 ghost use Rattle.xml_text.specs.Xml.{render};
-ghost use Rattle.map_picture.specs.Pictures.{frame, frame_at, frame_title, frames, owner_at, owners, request_for, requests, strip, strip_at, strip_name, strip_of, strip_text, strip_words, strips};
+ghost use Rattle.map_picture.specs.Pictures.{frame_at, frames, map_name, owner_at, owners, request_at, requests};
+ghost use Rattle.map_picture.specs.Pictures.{strip_at, strip_name, strip_row, strip_text, strip_words, strips};
 ghost use Rattle.map_picture.specs.Wedges.{IsInOrder};
 
 use crate::asked::add_asked;
-use crate::axis::{Axis, Columns, Page, at, right, wide};
-use crate::cells::add_cells;
-use crate::owners::add_owner;
+use crate::axis::{Page, at, right, wide};
+use crate::cells::{Strip, add_cells};
+use crate::owners::{Owner, add_owner};
 use crate::scales::add_ticks;
 use crate::sent::Sent;
 use crate::shapes::add_block;
 use crate::wedges::add_wedges;
 use plan_account::{Deed, LeaseRow, RequestRow, ShownMap};
 use std::alloc::{AllocError, Global};
-use xml_text::add_words;
+use std::marker::Model;
+use xml_text::{Area, add_words};
 
-fn add_strip_name(
-    alloc: Global,
-    out: &mut String,
-    columns: Columns,
-    y: u64,
-    k: usize,
-) -> Result<(), AllocError>
-    requires y { y < 2 ^ 62 }
-    requires k { k < 2 ^ 62 }
-    ensures { OnOk result (string_bytes out.new ≡ string_bytes out.old ++ render (strip_name columns y k)) }
+/// What is drawn of a channel: its page, what commands did, the numbers above it, what modems sent in order, the leases
+/// and the requests that have a row, and which deeds are its MAPs.
+#[derive(Drop)]
+pub(crate) struct OnChannel<'a> {
+    pub page: Page,
+    pub deeds: &'a [Deed],
+    pub numbers: &'a [u64],
+    pub sent: &'a [Sent],
+    pub owners: &'a [LeaseRow],
+    pub requests: &'a [RequestRow],
+    pub maps: &'a [usize],
+}
+
+impl<'a> Model for OnChannel<'a> {
+    ghost use Rattle.map_picture.specs.Pictures.{ChannelRows};
+
+    ghost Value = { ChannelRows };
+
+    ghost view = { λ c. record {
+      page = c.page;
+      deeds = c.deeds.now;
+      numbers = c.numbers.now;
+      sent = c.sent.now;
+      owners = c.owners.now;
+      requests = c.requests.now;
+      maps = c.maps.now;
+    } };
+}
+
+/// MAP `k` of a channel by its number.
+fn map_name(alloc: Global, k: usize) -> Result<String, AllocError>
+    requires { k < 2 ^ 62 }
+    ensures { IfOk result (λ text. string_bytes text ≡ map_name k) }
 {
     let number = k + 1;
-    let words = format!(in alloc; "MAP {number}")?;
-    let point = (u64::from(columns.names), y + 11);
+    format!(in alloc; "MAP {number}")
+}
+
+fn add_strip_name(alloc: Global, out: &mut String, strip: &Strip) -> Result<(), AllocError>
+    requires y { strip.now.y < 2 ^ 62 }
+    requires number { strip.now.number < 2 ^ 62 }
+    ensures { OnOk result (string_bytes out.new ≡ string_bytes out.old ++ render (strip_name strip.now)) }
+{
+    let words = map_name(alloc, strip.number)?;
+    let point = (u64::from(strip.columns.names), strip.y + 11);
     add_words(alloc, out, point, "s e b", words.as_str())
 }
 
@@ -47,74 +80,60 @@ pub(crate) fn strip_text(
     format!(in alloc; "command {command}: {len} from {start}")
 }
 
-fn add_strip_words(
-    alloc: Global,
-    out: &mut String,
-    columns: Columns,
-    y: u64,
-    i: usize,
-    start: u64,
-    len: u16,
-) -> Result<(), AllocError>
-    requires y { y < 2 ^ 62 }
-    requires i { i < 2 ^ 62 }
-    ensures { OnOk result (string_bytes out.new ≡ string_bytes out.old ++ render (strip_words columns y i start len)) }
+fn add_strip_words(alloc: Global, out: &mut String, strip: &Strip) -> Result<(), AllocError>
+    requires y { strip.now.y < 2 ^ 62 }
+    requires deed { strip.now.deed < 2 ^ 62 }
+    ensures { OnOk result (string_bytes out.new ≡ string_bytes out.old ++ render (strip_words strip.now)) }
 {
-    let words = strip_text(alloc, i, start, len)?;
-    let point = (right(columns), y + 11);
+    let words = strip_text(alloc, strip.deed, strip.start, strip.len)?;
+    let point = (right(strip.columns), strip.y + 11);
     add_words(alloc, out, point, "s mute", words.as_str())
 }
 
-/// The strip of MAP `k`, of deed `i`, and what modems sent in it.
+/// A strip of a channel, and what modems sent in it.
 fn add_strip(
     alloc: Global,
     out: &mut String,
-    columns: Columns,
-    numbers: &[u64],
-    sent: &[Sent],
-    y: u64,
-    k: usize,
-    i: usize,
-    ch: u8,
-    start: u64,
-    len: u16,
+    channel: &OnChannel<'_>,
+    strip: &Strip,
     map: &ShownMap,
 ) -> Result<(), AllocError>
-    requires y { y < 2 ^ 62 }
-    requires k { k < 2 ^ 62 }
-    requires i { i < 2 ^ 62 }
-    requires order { IsInOrder sent.now }
-    requires start { start < 2 ^ 63 }
-    ensures { OnOk result (string_bytes out.new ≡ string_bytes out.old ++ render (strip columns numbers.now sent.now y k i ch start len map.now)) }
+    requires y { strip.now.y < 2 ^ 62 }
+    requires number { strip.now.number < 2 ^ 62 }
+    requires deed { strip.now.deed < 2 ^ 62 }
+    requires order { IsInOrder channel.now.sent }
+    requires start { strip.now.start < 2 ^ 63 }
+    ensures { OnOk result (string_bytes out.new ≡ string_bytes out.old ++ render (strip_row channel.now strip.now map.now)) }
 {
-    let left = columns.left;
-    add_strip_name(alloc, out, columns, y, k)?;
-    add_cells(alloc, out, left, len, y, map.intervals())?;
-    add_ticks(alloc, out, left, start, len, y, numbers)?;
-    add_wedges(alloc, out, sent, ch, left, start, len, y)?;
-    add_strip_words(alloc, out, columns, y, i, start, len)?;
+    add_strip_name(alloc, out, strip)?;
+    add_cells(alloc, out, strip, map.intervals())?;
+    add_ticks(alloc, out, strip, channel.numbers)?;
+    add_wedges(alloc, out, strip, channel.sent)?;
+    add_strip_words(alloc, out, strip)?;
     Ok(())
 }
 
-/// The strip of deed `i`, which is MAP `k`.
-fn add_strip_of(
+fn add_strip_at(
     alloc: Global,
     out: &mut String,
-    columns: Columns,
-    numbers: &[u64],
-    sent: &[Sent],
-    y: u64,
+    channel: &OnChannel<'_>,
+    top: u64,
     k: usize,
-    i: usize,
-    deed: &Deed,
 ) -> Result<(), AllocError>
-    requires y { y < 2 ^ 62 }
-    requires k { k < 2 ^ 62 }
-    requires i { i < 2 ^ 62 }
-    requires order { IsInOrder sent.now }
-    ensures { OnOk result (string_bytes out.new ≡ string_bytes out.old ++ render (strip_of columns numbers.now sent.now y k i deed.now)) }
+    requires top { top < 2 ^ 61 }
+    requires deeds { length channel.now.deeds < 2 ^ 27 }
+    requires maps { length channel.now.maps < 2 ^ 27 }
+    requires order { IsInOrder channel.now.sent }
+    ensures { OnOk result (string_bytes out.new ≡ string_bytes out.old ++ render (strip_at channel.now top k)) }
 {
-    match deed {
+    let (deeds, maps) = (channel.deeds, channel.maps);
+    if k >= maps.len() {
+        return Ok(());
+    }
+    if maps[k] >= deeds.len() {
+        return Ok(());
+    }
+    match &deeds[maps[k]] {
         Deed::Map {
             ch,
             start,
@@ -122,10 +141,16 @@ fn add_strip_of(
             map,
             ..
         } => {
-            let start = start.get();
-            add_strip(
-                alloc, out, columns, numbers, sent, y, k, i, *ch, start, *len, map,
-            )
+            let strip = Strip {
+                columns: channel.page.axis.columns,
+                y: top + 22 * (k as u64),
+                number: k,
+                deed: maps[k],
+                ch: *ch,
+                start: start.get(),
+                len: *len,
+            };
+            add_strip(alloc, out, channel, &strip, map)
         }
         Deed::Channel(_) => Ok(()),
         Deed::Flow { .. } => Ok(()),
@@ -135,53 +160,21 @@ fn add_strip_of(
     }
 }
 
-fn add_strip_at(
-    alloc: Global,
-    out: &mut String,
-    deeds: &[Deed],
-    columns: Columns,
-    numbers: &[u64],
-    sent: &[Sent],
-    top: u64,
-    rows: &[usize],
-    k: usize,
-) -> Result<(), AllocError>
-    requires top { top < 2 ^ 61 }
-    requires deeds { length deeds.now < 2 ^ 27 }
-    requires rows { length rows.now < 2 ^ 27 }
-    requires order { IsInOrder sent.now }
-    ensures { OnOk result (string_bytes out.new ≡ string_bytes out.old ++ render (strip_at deeds.now columns numbers.now sent.now top rows.now k)) }
-{
-    if k >= rows.len() {
-        return Ok(());
-    }
-    if rows[k] >= deeds.len() {
-        return Ok(());
-    }
-    let y = top + 22 * (k as u64);
-    let (i, deed) = (rows[k], &deeds[rows[k]]);
-    add_strip_of(alloc, out, columns, numbers, sent, y, k, i, deed)
-}
-
 /// A row a MAP.
 pub(crate) fn add_strips(
     alloc: Global,
     out: &mut String,
-    deeds: &[Deed],
-    columns: Columns,
-    numbers: &[u64],
-    sent: &[Sent],
+    channel: &OnChannel<'_>,
     top: u64,
-    rows: &[usize],
 ) -> Result<(), AllocError>
     requires top { top < 2 ^ 61 }
-    requires deeds { length deeds.now < 2 ^ 27 }
-    requires rows { length rows.now < 2 ^ 27 }
-    requires order { IsInOrder sent.now }
-    ensures { OnOk result (string_bytes out.new ≡ string_bytes out.old ++ render (strips deeds.now columns numbers.now sent.now top rows.now)) }
+    requires deeds { length channel.now.deeds < 2 ^ 27 }
+    requires maps { length channel.now.maps < 2 ^ 27 }
+    requires order { IsInOrder channel.now.sent }
+    ensures { OnOk result (string_bytes out.new ≡ string_bytes out.old ++ render (strips channel.now top)) }
 {
-    for k in 0..rows.len() {
-        add_strip_at(alloc, out, deeds, columns, numbers, sent, top, rows, k)?;
+    for k in 0..channel.maps.len() {
+        add_strip_at(alloc, out, channel, top, k)?;
     }
     Ok(())
 }
@@ -189,38 +182,38 @@ pub(crate) fn add_strips(
 fn add_owner_at(
     alloc: Global,
     out: &mut String,
-    page: Page,
-    deeds: &[Deed],
+    channel: &OnChannel<'_>,
     top: u64,
-    rows: &[LeaseRow],
     k: usize,
 ) -> Result<(), AllocError>
     requires top { top < 2 ^ 61 }
-    requires rows { length rows.now < 2 ^ 27 }
-    ensures { OnOk result (string_bytes out.new ≡ string_bytes out.old ++ render (owner_at page deeds.now top rows.now k)) }
+    requires owners { length channel.now.owners < 2 ^ 27 }
+    ensures { OnOk result (string_bytes out.new ≡ string_bytes out.old ++ render (owner_at channel.now top k)) }
 {
-    if k >= rows.len() {
+    if k >= channel.owners.len() {
         return Ok(());
     }
-    let y = top + 22 * (k as u64);
-    add_owner(alloc, out, page, deeds, y, &rows[k])
+    let owner = Owner {
+        page: channel.page,
+        y: top + 22 * (k as u64),
+        row: channel.owners[k],
+    };
+    add_owner(alloc, out, &owner, channel.deeds)
 }
 
 /// A row a lease.
 pub(crate) fn add_owners(
     alloc: Global,
     out: &mut String,
-    page: Page,
-    deeds: &[Deed],
+    channel: &OnChannel<'_>,
     top: u64,
-    rows: &[LeaseRow],
 ) -> Result<(), AllocError>
     requires top { top < 2 ^ 61 }
-    requires rows { length rows.now < 2 ^ 27 }
-    ensures { OnOk result (string_bytes out.new ≡ string_bytes out.old ++ render (owners page deeds.now top rows.now)) }
+    requires owners { length channel.now.owners < 2 ^ 27 }
+    ensures { OnOk result (string_bytes out.new ≡ string_bytes out.old ++ render (owners channel.now top)) }
 {
-    for k in 0..rows.len() {
-        add_owner_at(alloc, out, page, deeds, top, rows, k)?;
+    for k in 0..channel.owners.len() {
+        add_owner_at(alloc, out, channel, top, k)?;
     }
     Ok(())
 }
@@ -228,67 +221,65 @@ pub(crate) fn add_owners(
 fn add_request_at(
     alloc: Global,
     out: &mut String,
-    axis: Axis,
-    y: u64,
-    rows: &[RequestRow],
+    channel: &OnChannel<'_>,
+    top: u64,
     k: usize,
 ) -> Result<(), AllocError>
-    requires { y < 2 ^ 62 }
-    ensures { OnOk result (string_bytes out.new ≡ string_bytes out.old ++ render (request_for axis y (slice_get rows.now k))) }
+    requires top { top < 2 ^ 61 }
+    requires requests { length channel.now.requests < 2 ^ 27 }
+    ensures { OnOk result (string_bytes out.new ≡ string_bytes out.old ++ render (request_at channel.now top k)) }
 {
-    match rows.get(k) {
-        Some(row) => add_asked(alloc, out, axis, y, row),
-        None => Ok(()),
+    if k >= channel.requests.len() {
+        return Ok(());
     }
+    let y = top + 22 * (k as u64);
+    add_asked(alloc, out, channel.page.axis, y, &channel.requests[k])
 }
 
 /// A row a request.
 pub(crate) fn add_requests(
     alloc: Global,
     out: &mut String,
-    axis: Axis,
+    channel: &OnChannel<'_>,
     top: u64,
-    rows: &[RequestRow],
 ) -> Result<(), AllocError>
     requires top { top < 2 ^ 61 }
-    requires rows { length rows.now < 2 ^ 27 }
-    ensures { OnOk result (string_bytes out.new ≡ string_bytes out.old ++ render (requests axis top rows.now)) }
+    requires requests { length channel.now.requests < 2 ^ 27 }
+    ensures { OnOk result (string_bytes out.new ≡ string_bytes out.old ++ render (requests channel.now top)) }
 {
-    for k in 0..rows.len() {
-        let y = top + 22 * (k as u64);
-        add_request_at(alloc, out, axis, y, rows, k)?;
+    for k in 0..channel.requests.len() {
+        add_request_at(alloc, out, channel, top, k)?;
     }
     Ok(())
 }
 
-fn frame_title(alloc: Global, k: usize) -> Result<String, AllocError>
-    requires { k < 2 ^ 62 }
-    ensures { IfOk result (λ text. string_bytes text ≡ frame_title k) }
-{
-    let number = k + 1;
-    format!(in alloc; "MAP {number}")
-}
-
-/// The frame of MAP `k` on the axis of time.
-fn add_frame(
+/// The frame of MAP `k` on the axis of time, from where down and so high.
+fn add_frame_at(
     alloc: Global,
     out: &mut String,
-    page: Page,
-    y: u64,
-    height: u64,
+    channel: &OnChannel<'_>,
+    down: (u64, u64),
     k: usize,
-    deed: &Deed,
 ) -> Result<(), AllocError>
-    requires { k < 2 ^ 62 }
-    ensures { OnOk result (string_bytes out.new ≡ string_bytes out.old ++ render (frame page y height k deed.now)) }
+    requires { length channel.now.maps < 2 ^ 27 }
+    ensures { OnOk result (string_bytes out.new ≡ string_bytes out.old ++ render (frame_at channel.now down.0 down.1 k)) }
 {
-    match deed {
+    let (axis, deeds, maps) = (channel.page.axis, channel.deeds, channel.maps);
+    if k >= maps.len() {
+        return Ok(());
+    }
+    if maps[k] >= deeds.len() {
+        return Ok(());
+    }
+    match &deeds[maps[k]] {
         Deed::Map { start, len, .. } => {
-            let title = frame_title(alloc, k)?;
+            let title = map_name(alloc, k)?;
             let (from, to) = (start.get(), start.get() + u64::from(*len));
-            let corner = (at(page.axis, from), y);
-            let size = (wide(page.axis, from, to), height);
-            add_block(alloc, out, title.as_str(), corner, size, "frame")
+            let area = Area {
+                corner: (at(axis, from), down.0),
+                size: (wide(axis, from, to), down.1),
+            };
+            add_block(alloc, out, title.as_str(), area, "frame")
         }
         Deed::Channel(_) => Ok(()),
         Deed::Flow { .. } => Ok(()),
@@ -298,43 +289,18 @@ fn add_frame(
     }
 }
 
-fn add_frame_at(
-    alloc: Global,
-    out: &mut String,
-    page: Page,
-    deeds: &[Deed],
-    y: u64,
-    height: u64,
-    rows: &[usize],
-    k: usize,
-) -> Result<(), AllocError>
-    requires { length rows.now < 2 ^ 27 }
-    ensures { OnOk result (string_bytes out.new ≡ string_bytes out.old ++ render (frame_at page deeds.now y height rows.now k)) }
-{
-    if k >= rows.len() {
-        return Ok(());
-    }
-    if rows[k] >= deeds.len() {
-        return Ok(());
-    }
-    add_frame(alloc, out, page, y, height, k, &deeds[rows[k]])
-}
-
-/// The frame of each MAP.
+/// The frame of each MAP, from where down and so high.
 pub(crate) fn add_frames(
     alloc: Global,
     out: &mut String,
-    page: Page,
-    deeds: &[Deed],
-    y: u64,
-    height: u64,
-    rows: &[usize],
+    channel: &OnChannel<'_>,
+    down: (u64, u64),
 ) -> Result<(), AllocError>
-    requires { length rows.now < 2 ^ 27 }
-    ensures { OnOk result (string_bytes out.new ≡ string_bytes out.old ++ render (frames page deeds.now y height rows.now)) }
+    requires { length channel.now.maps < 2 ^ 27 }
+    ensures { OnOk result (string_bytes out.new ≡ string_bytes out.old ++ render (frames channel.now down.0 down.1)) }
 {
-    for k in 0..rows.len() {
-        add_frame_at(alloc, out, page, deeds, y, height, rows, k)?;
+    for k in 0..channel.maps.len() {
+        add_frame_at(alloc, out, channel, down, k)?;
     }
     Ok(())
 }

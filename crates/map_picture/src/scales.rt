@@ -4,10 +4,10 @@ ghost use Rattle.std.specs.Prelude.{◌≡◌, ◌++◌, ◌*◌, ◌<◌, ◌�
 ghost use Rattle.xml_text.specs.Xml.{render};
 ghost use Rattle.map_picture.specs.Scales.{most_numbers, no_map, number, number_at, number_count, number_tick};
 ghost use Rattle.map_picture.specs.Scales.{number_words, numbers, numbers_by, part_of, round_step, scale, step_of};
-ghost use Rattle.map_picture.specs.Scales.{steps_before, ten_after, tick, tick_at, ticks, NumbersAreRound};
+ghost use Rattle.map_picture.specs.Scales.{steps_before, ten_after, tick, tick_at, tick_x, ticks, NumbersAreRound};
 
 use crate::axis::{Axis, Span, at, is_bare};
-use crate::cells::cell_x;
+use crate::cells::{Strip, cell_x};
 use std::alloc::{AllocError, Global};
 use xml_text::{add_line, add_words};
 
@@ -160,17 +160,18 @@ fn add_number(alloc: Global, out: &mut String, axis: Axis, y: u64, t: u64) -> Re
     Ok(())
 }
 
+/// The number of this place in numbers, at this height.
 fn add_number_at(
     alloc: Global,
     out: &mut String,
     axis: Axis,
-    y: u64,
     numbers: &[u64],
-    k: usize,
+    place: (u64, usize),
 ) -> Result<(), AllocError>
-    requires { y < 2 ^ 62 }
-    ensures { OnOk result (string_bytes out.new ≡ string_bytes out.old ++ render (number_at axis y numbers.now k)) }
+    requires { place.0 < 2 ^ 62 }
+    ensures { OnOk result (string_bytes out.new ≡ string_bytes out.old ++ render (number_at axis place.0 numbers.now place.1)) }
 {
+    let (y, k) = place;
     if k >= numbers.len() {
         return Ok(());
     }
@@ -189,7 +190,7 @@ pub(crate) fn add_scale(
     ensures { OnOk result (string_bytes out.new ≡ string_bytes out.old ++ render (scale axis y numbers.now)) }
 {
     for k in 0..numbers.len() {
-        add_number_at(alloc, out, axis, y, numbers, k)?;
+        add_number_at(alloc, out, axis, numbers, (y, k))?;
     }
     Ok(())
 }
@@ -211,60 +212,55 @@ pub(crate) fn add_no_map(
     add_words(alloc, out, point, "s mute", "no MAP")
 }
 
-/// The tick of a minislot on a strip, if it is in the MAP or ends it.
-fn add_tick(
-    alloc: Global,
-    out: &mut String,
-    left: u32,
-    start: u64,
-    len: u16,
-    y: u64,
-    t: u64,
-) -> Result<(), AllocError>
-    requires { start < 2 ^ 63 }
-    ensures { OnOk result (string_bytes out.new ≡ string_bytes out.old ++ render (tick left start len y t)) }
+/// Where the tick of a minislot of a MAP is on its strip.
+fn tick_x(strip: &Strip, t: u64) -> u64
+    requires from { strip.now.start ≤ t }
+    requires to { t ≤ strip.now.start + strip.now.len }
+    ensures { result ≡ tick_x strip.now t }
 {
-    if !(start <= t && t <= start + u64::from(len)) {
+    cell_x(strip.columns.left, strip.len, (t - strip.start) as u16)
+}
+
+/// The tick of a minislot on a strip, if it is in the MAP or ends it.
+fn add_tick(alloc: Global, out: &mut String, strip: &Strip, t: u64) -> Result<(), AllocError>
+    requires { strip.now.start < 2 ^ 63 }
+    ensures { OnOk result (string_bytes out.new ≡ string_bytes out.old ++ render (tick strip.now t)) }
+{
+    if !(strip.start <= t && t <= strip.start + u64::from(strip.len)) {
         return Ok(());
     }
-    let x = cell_x(left, len, (t - start) as u16);
+    let (x, y) = (tick_x(strip, t), strip.y);
     add_line(alloc, out, (x, y.saturating_sub(4)), (x, y), "tick")
 }
 
 fn add_tick_at(
     alloc: Global,
     out: &mut String,
-    left: u32,
-    start: u64,
-    len: u16,
-    y: u64,
+    strip: &Strip,
     numbers: &[u64],
     k: usize,
 ) -> Result<(), AllocError>
-    requires { start < 2 ^ 63 }
-    ensures { OnOk result (string_bytes out.new ≡ string_bytes out.old ++ render (tick_at left start len y numbers.now k)) }
+    requires { strip.now.start < 2 ^ 63 }
+    ensures { OnOk result (string_bytes out.new ≡ string_bytes out.old ++ render (tick_at strip.now numbers.now k)) }
 {
     if k >= numbers.len() {
         return Ok(());
     }
-    add_tick(alloc, out, left, start, len, y, numbers[k])
+    add_tick(alloc, out, strip, numbers[k])
 }
 
-/// The ticks of numbers on the strip of a MAP that begins then.
+/// The ticks of numbers on the strip of a MAP.
 pub(crate) fn add_ticks(
     alloc: Global,
     out: &mut String,
-    left: u32,
-    start: u64,
-    len: u16,
-    y: u64,
+    strip: &Strip,
     numbers: &[u64],
 ) -> Result<(), AllocError>
-    requires { start < 2 ^ 63 }
-    ensures { OnOk result (string_bytes out.new ≡ string_bytes out.old ++ render (ticks left start len y numbers.now)) }
+    requires { strip.now.start < 2 ^ 63 }
+    ensures { OnOk result (string_bytes out.new ≡ string_bytes out.old ++ render (ticks strip.now numbers.now)) }
 {
     for k in 0..numbers.len() {
-        add_tick_at(alloc, out, left, start, len, y, numbers, k)?;
+        add_tick_at(alloc, out, strip, numbers, k)?;
     }
     Ok(())
 }

@@ -7,22 +7,21 @@ ghost use Rattle.map_picture.specs.Cells.{cell_class, class_of, colour, high, wo
 
 use map_body::{Interval, Iuc, Sid};
 use std::alloc::{AllocError, Global};
-use xml_text::{add_rectangle, add_titled};
+use xml_text::{Area, add_rectangle, add_titled};
 
 /// A rectangle that tells what it is when it is pointed at.
 pub(crate) fn add_block(
     alloc: Global,
     out: &mut String,
     title: &str,
-    corner: (u64, u64),
-    size: (u64, u64),
+    area: Area,
     class: &str,
 ) -> Result<(), AllocError>
     ensures { OnOk result (string_bytes out.new ≡ string_bytes out.old
-        ++ render (titled title.now (shape (Rectangle corner.0 corner.1 size.0 size.1 0 class.now)))) }
+        ++ render (titled title.now (shape (Rectangle area.corner.0 area.corner.1 area.size.0 area.size.1 class.now)))) }
 {
     let mut inside = String::new(alloc);
-    add_rectangle(alloc, &mut inside, corner, size, 0, class)?;
+    add_rectangle(alloc, &mut inside, area, class)?;
     add_titled(alloc, out, title, inside.as_str())
 }
 

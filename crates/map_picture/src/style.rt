@@ -4,7 +4,7 @@ ghost use Rattle.std.specs.Prelude.{IfOk, string_bytes};
 ghost use Rattle.map_picture.specs.Pictures.{IsRendered};
 
 use std::alloc::{AllocError, Global};
-use xml_text::add_pattern;
+use xml_text::{Pattern, add_pattern};
 
 /// The rules of both light and dark.
 pub(crate) const STYLE: &str = "text{font:11px ui-sans-serif,system-ui,'DejaVu Sans',sans-serif}\
@@ -22,15 +22,20 @@ pub(crate) const STYLE: &str = "text{font:11px ui-sans-serif,system-ui,'DejaVu S
 pub(crate) fn patterns(alloc: Global) -> Result<String, AllocError>
     ensures { IfOk result (λ text. IsRendered (string_bytes text)) }
 {
+    let free = Pattern {
+        id: "open",
+        size: 6,
+        steps: "M-1 7L7 -1",
+        class: "hatch",
+    };
+    let opening = Pattern {
+        id: "opening",
+        size: 6,
+        steps: "M-1 7L7 -1M-1 -1L7 7",
+        class: "hatch",
+    };
     let mut out = String::new(alloc);
-    add_pattern(alloc, &mut out, "open", 6, "M-1 7L7 -1", "hatch")?;
-    add_pattern(
-        alloc,
-        &mut out,
-        "opening",
-        6,
-        "M-1 7L7 -1M-1 -1L7 7",
-        "hatch",
-    )?;
+    add_pattern(alloc, &mut out, &free)?;
+    add_pattern(alloc, &mut out, &opening)?;
     Ok(out)
 }

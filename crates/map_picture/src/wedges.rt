@@ -2,8 +2,10 @@
 
 ghost use Rattle.std.specs.Prelude.{◌≡◌, ◌++◌, ◌+◌, ◌<◌, ◌≤◌, ◌^◌, nat_lt, IsTrue, IfOk, OnOk, string_bytes};
 ghost use Rattle.xml_text.specs.Xml.{render};
-ghost use Rattle.map_picture.specs.Wedges.{clash_words, collides, is_in, meets, middle, sending_words, wedge, wedge_at, wedge_class, wedge_steps, wedge_title, wedges, AreBefore, IsInOrder};
+ghost use Rattle.map_picture.specs.Wedges.{clash_words, collides, is_in, meets, middle, sending_words, wedge, wedge_at};
+ghost use Rattle.map_picture.specs.Wedges.{wedge_class, wedge_steps, wedge_title, wedges, AreBefore, IsInOrder};
 
+use crate::cells::Strip;
 use crate::sent::Sent;
 use modem::Sending;
 use std::alloc::{AllocError, Global};
@@ -46,14 +48,14 @@ fn collides(sent: &[Sent], t: &Sent) -> bool
     false
 }
 
-/// Whether it was in the channel, in a MAP that begins then and is so long.
-fn is_in(ch: u8, start: u64, len: u16, t: &Sent) -> bool
-    requires start { start < 2 ^ 63 }
-    ensures value { result ≡ is_in ch start len t.now }
-    ensures within { IsTrue result → t.now.slot < start + len }
+/// Whether it was in the channel of a MAP, in one of its minislots.
+fn is_in(strip: &Strip, t: &Sent) -> bool
+    requires start { strip.now.start < 2 ^ 63 }
+    ensures value { result ≡ is_in strip.now t.now }
+    ensures within { IsTrue result → t.now.slot < strip.now.start + strip.now.len }
 {
-    let slot = t.slot.get();
-    t.channel == ch && start <= slot && slot < start + u64::from(len)
+    let (start, slot) = (strip.start, t.slot.get());
+    t.channel == strip.ch && start <= slot && slot < start + u64::from(strip.len)
 }
 
 /// The middle of minislot `x` of a MAP of so many.
@@ -103,25 +105,23 @@ fn wedge_title(alloc: Global, clash: bool, t: &Sent) -> Result<String, AllocErro
     format!(in alloc; "modem {id}: {words}, minislot {slot}{more}")
 }
 
-/// The wedge of what was sent in a MAP that begins then.
+/// The wedge of what was sent in a MAP.
 fn add_wedge(
     alloc: Global,
     out: &mut String,
-    clash: bool,
-    left: u32,
-    start: u64,
-    len: u16,
-    y: u64,
+    strip: &Strip,
     t: &Sent,
+    clash: bool,
 ) -> Result<(), AllocError>
-    requires start { start < 2 ^ 63 }
-    requires within { t.now.slot < start + len }
-    requires y { y < 2 ^ 62 }
-    ensures { OnOk result (string_bytes out.new ≡ string_bytes out.old ++ render (wedge clash left start len y t.now)) }
+    requires start { strip.now.start < 2 ^ 63 }
+    requires within { t.now.slot < strip.now.start + strip.now.len }
+    requires y { strip.now.y < 2 ^ 62 }
+    ensures { OnOk result (string_bytes out.new ≡ string_bytes out.old ++ render (wedge clash strip.now t.now)) }
 {
     let title = wedge_title(alloc, clash, t)?;
-    let x = middle(left, len, t.slot.get().saturating_sub(start));
-    let steps = wedge_steps(alloc, x, y + 11)?;
+    let behind = t.slot.get().saturating_sub(strip.start);
+    let x = middle(strip.columns.left, strip.len, behind);
+    let steps = wedge_steps(alloc, x, strip.y + 11)?;
     add_titled_path(
         alloc,
         out,
@@ -134,27 +134,23 @@ fn add_wedge(
 fn add_wedge_at(
     alloc: Global,
     out: &mut String,
+    strip: &Strip,
     sent: &[Sent],
-    ch: u8,
-    left: u32,
-    start: u64,
-    len: u16,
-    y: u64,
     k: usize,
 ) -> Result<(), AllocError>
     requires order { IsInOrder sent.now }
-    requires start { start < 2 ^ 63 }
-    requires y { y < 2 ^ 62 }
-    ensures { OnOk result (string_bytes out.new ≡ string_bytes out.old ++ render (wedge_at sent.now ch left start len y k)) }
+    requires start { strip.now.start < 2 ^ 63 }
+    requires y { strip.now.y < 2 ^ 62 }
+    ensures { OnOk result (string_bytes out.new ≡ string_bytes out.old ++ render (wedge_at sent.now strip.now k)) }
 {
     if k >= sent.len() {
         return Ok(());
     }
     let t = &sent[k];
-    if !is_in(ch, start, len, t) {
+    if !is_in(strip, t) {
         return Ok(());
     }
-    add_wedge(alloc, out, collides(sent, t), left, start, len, y, t)
+    add_wedge(alloc, out, strip, t, collides(sent, t))
 }
 
 /// A wedge for each transmission in a MAP of a channel. It costs the logarithm of how many transmissions there are, and
@@ -162,22 +158,18 @@ fn add_wedge_at(
 pub(crate) fn add_wedges(
     alloc: Global,
     out: &mut String,
+    strip: &Strip,
     sent: &[Sent],
-    ch: u8,
-    left: u32,
-    start: u64,
-    len: u16,
-    y: u64,
 ) -> Result<(), AllocError>
     requires order { IsInOrder sent.now }
-    requires start { start < 2 ^ 63 }
-    requires y { y < 2 ^ 62 }
-    ensures { OnOk result (string_bytes out.new ≡ string_bytes out.old ++ render (wedges sent.now ch left start len y)) }
+    requires start { strip.now.start < 2 ^ 63 }
+    requires y { strip.now.y < 2 ^ 62 }
+    ensures { OnOk result (string_bytes out.new ≡ string_bytes out.old ++ render (wedges sent.now strip.now)) }
 {
-    let first = count_before(sent, start);
-    let past = count_before(sent, start + u64::from(len));
+    let first = count_before(sent, strip.start);
+    let past = count_before(sent, strip.start + u64::from(strip.len));
     for k in first..past {
-        add_wedge_at(alloc, out, sent, ch, left, start, len, y, k)?;
+        add_wedge_at(alloc, out, strip, sent, k)?;
     }
     Ok(())
 }

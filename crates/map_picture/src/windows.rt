@@ -1,18 +1,20 @@
 //! The windows of a lease, by their numbers.
 
-ghost use Rattle.std.specs.Prelude.{◌≡◌, ◌++◌, ◌<◌, ◌^◌, OnOk, IfOk, flat_map, string_bytes};
+ghost use Rattle.std.specs.Prelude.{◌≡◌, ◌+◌, ◌++◌, ◌<◌, ◌^◌, OnOk, IfOk, Some, flat_map, min, string_bytes};
 ghost use Rattle.std.specs.List.{list_any};
 ghost use Rattle.xml_text.specs.Xml.{render};
-ghost use Rattle.map_picture.specs.Windows.{begins_in, begun, counted, first_window, is_missed, is_unasked, start_of};
-ghost use Rattle.map_picture.specs.Windows.{starts, starts_in, window, window_class, windows, windows_from};
+ghost use Rattle.map_picture.specs.Windows.{begins_in, begun, counted, due, first_window, is_missed, is_unasked};
+ghost use Rattle.map_picture.specs.Windows.{start_of, starts, starts_in, stroke, window_class, windows, windows_from};
+ghost use Rattle.map_picture.specs.Windows.{windows_with};
 
-use crate::axis::{Axis, Page, at, wide};
+use crate::axis::{at, wide};
+use crate::owners::Owner;
 use crate::picked::is_granted;
 use flow_state::FlowKind;
 use map_body::{Interval, Iuc};
 use plan_account::{Deed, LeaseRow};
 use std::alloc::{AllocError, Global};
-use xml_text::add_rectangle;
+use xml_text::{Area, add_rectangle};
 
 /// Due times, an interval apart, the first at the base. The window of each reaches from it to jitter later.
 #[derive(Clone, Copy)]
@@ -186,45 +188,52 @@ fn window_class(missed: bool) -> &'static str
     if missed { "missed" } else { "due" }
 }
 
-/// A window, as far as it is before the flow ends.
-fn add_window(
+/// A line below the row of a lease.
+fn add_stroke(
     alloc: Global,
     out: &mut String,
-    axis: Axis,
-    y: u64,
-    dues: Dues,
-    until: u64,
-    found: &[u64],
-    k: u64,
+    owner: &Owner,
+    stretch: (u64, u64),
+    missed: bool,
 ) -> Result<(), AllocError>
-    requires y { y < 2 ^ 62 }
-    requires k { k < begun (counted dues) until }
-    ensures { OnOk result (string_bytes out.new ≡ string_bytes out.old ++ render (window axis y (counted dues) until found.now k)) }
+    requires { owner.now.y < 2 ^ 62 }
+    ensures { OnOk result (string_bytes out.new ≡ string_bytes out.old ++ render (stroke owner.now stretch.0 stretch.1 missed)) }
+{
+    let (axis, (from, to)) = (owner.page.axis, stretch);
+    let area = Area {
+        corner: (at(axis, from), owner.y + 15),
+        size: (wide(axis, from, to), 2),
+    };
+    add_rectangle(alloc, out, area, window_class(missed))
+}
+
+/// From when to when window `k` is drawn: as far as it is before the flow ends.
+fn stretch(dues: Dues, until: u64, k: u64) -> (u64, u64)
+    requires { k < begun (counted dues) until }
+    ensures { result ≡ (due (counted dues) k, min (due (counted dues) k + dues.jitter) until) }
 {
     let due = dues.due(until, k);
     let end = due.saturating_add(u64::from(dues.jitter)).min(until);
-    let size = (wide(axis, due, end), 2);
-    let class = window_class(is_missed(dues, until, found, k));
-    add_rectangle(alloc, out, (at(axis, due), y + 15), size, 0, class)
+    (due, end)
 }
 
 /// The windows that begin before the flow ends, from one on, and no more than 512.
 fn add_windows_from(
     alloc: Global,
     out: &mut String,
-    axis: Axis,
-    y: u64,
+    owner: &Owner,
     dues: Dues,
-    until: u64,
     found: &[u64],
-    first: u64,
 ) -> Result<(), AllocError>
-    requires { y < 2 ^ 62 }
+    requires { owner.now.y < 2 ^ 62 }
     ensures { OnOk result (string_bytes out.new ≡ string_bytes out.old
-        ++ render (windows_from axis y (counted dues) until found.now first)) }
+        ++ render (windows_from owner.now (counted dues) found.now (first_window owner.now.page.axis.span.from (counted dues)))) }
 {
+    let (until, first) = (owner.row.until, dues.first(owner.page.axis.span.from));
     for i in 0..dues.count(until, first) {
-        add_window(alloc, out, axis, y, dues, until, found, first + i)?;
+        let missed = is_missed(dues, until, found, first + i);
+        let stretch = stretch(dues, until, first + i);
+        add_stroke(alloc, out, owner, stretch, missed)?;
     }
     Ok(())
 }
@@ -233,35 +242,28 @@ fn add_windows_from(
 fn add_windows_of(
     alloc: Global,
     out: &mut String,
-    page: Page,
+    owner: &Owner,
     deeds: &[Deed],
-    y: u64,
-    row: &LeaseRow,
     dues: Dues,
 ) -> Result<(), AllocError>
-    requires { y < 2 ^ 62 }
-    ensures { OnOk result (string_bytes out.new ≡ string_bytes out.old
-        ++ render (windows_from page.axis y (counted dues) row.now.until (starts page.ch row.now deeds.now)
-        (first_window page.axis.span.from (counted dues)))) }
+    requires { owner.now.y < 2 ^ 62 }
+    ensures { OnOk result (string_bytes out.new ≡ string_bytes out.old ++ render (windows_with deeds.now owner.now (Some (counted dues)))) }
 {
-    let found = starts(alloc, page.ch, row, deeds)?;
-    let first = dues.first(page.axis.span.from);
-    add_windows_from(alloc, out, page.axis, y, dues, row.until, &found, first)
+    let found = starts(alloc, owner.page.ch, &owner.row, deeds)?;
+    add_windows_from(alloc, out, owner, dues, &found)
 }
 
 /// The windows of a lease.
 pub(crate) fn add_windows(
     alloc: Global,
     out: &mut String,
-    page: Page,
+    owner: &Owner,
     deeds: &[Deed],
-    y: u64,
-    row: &LeaseRow,
 ) -> Result<(), AllocError>
-    requires { y < 2 ^ 62 }
-    ensures { OnOk result (string_bytes out.new ≡ string_bytes out.old ++ render (windows page deeds.now y row.now)) }
+    requires { owner.now.y < 2 ^ 62 }
+    ensures { OnOk result (string_bytes out.new ≡ string_bytes out.old ++ render (windows deeds.now owner.now)) }
 {
-    match row.lease.kind {
+    match owner.row.lease.kind {
         FlowKind::BestEffort(_) | FlowKind::Initial { .. } => Ok(()),
         FlowKind::Ugs {
             interval,
@@ -285,7 +287,7 @@ pub(crate) fn add_windows(
                 jitter,
                 base,
             };
-            add_windows_of(alloc, out, page, deeds, y, row, dues)
+            add_windows_of(alloc, out, owner, deeds, dues)
         }
     }
 }

@@ -1,5 +1,6 @@
 -- What is told of a flow as lines. Numbers are decimal, times and delays in minislots.
-use Rattle.std.specs.Prelude.{ℕ, ◌-◌, ◌*◌, ◌/◌, ◌%◌, ◌^◌, ◌==◌, if◌then◌else◌, List, [], ◌∷◌, ◌++◌, Option, Some, None, codes, decimal}
+use Rattle.std.specs.Prelude.{ℕ, ◌-◌, ◌*◌, ◌/◌, ◌%◌, ◌^◌, ◌==◌, if◌then◌else◌, List, [], ◌∷◌, ◌++◌, Option, Some, None}
+use Rattle.std.specs.Prelude.{codes, decimal}
 use Rattle.map_stats.specs.declared.rows.FlowRow.{FlowRow}
 use Rattle.map_stats.specs.declared.summary.Delays.{Delays}
 use Rattle.map_stats.specs.declared.summary.Summary.{Summary}

@@ -1,5 +1,6 @@
 -- The sums over the rows of requests and of leases, by key.
-use Rattle.std.specs.Prelude.{ℕ, ◌+◌, ◌-◌, ◌==◌, if◌then◌else◌, List, [], ◌∷◌, ◌++◌, fold, Option, Some, None, unwrap_or}
+use Rattle.std.specs.Prelude.{ℕ, ◌+◌, ◌-◌, ◌==◌, if◌then◌else◌, List, [], ◌∷◌, ◌++◌, fold, Option, Some, None}
+use Rattle.std.specs.Prelude.{unwrap_or}
 use Rattle.plan_account.specs.declared.past.Fate.{Fate}
 use Rattle.plan_account.specs.declared.past.Fate.TheVariants as fates
 use Rattle.plan_account.specs.declared.past.LeaseRow.{LeaseRow}

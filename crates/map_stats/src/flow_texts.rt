@@ -1,7 +1,8 @@
 //! What is told of a flow as lines, each with its line's end.
 
 ghost use Rattle.std.specs.Prelude.{◌≡◌, ◌≢◌, IfOk, string_bytes};
-ghost use Rattle.map_stats.specs.FlowTexts.{flow_head, requests_line, fraction, delays_line, waits_line, windows_line, flow_lines};
+ghost use Rattle.map_stats.specs.FlowTexts.{flow_head, requests_line, fraction, delays_line, waits_line, windows_line};
+ghost use Rattle.map_stats.specs.FlowTexts.{flow_lines};
 
 use crate::rows::FlowRow;
 use crate::summary::{Delays, Summary, Waits};

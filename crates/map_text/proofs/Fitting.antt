@@ -1,5 +1,6 @@
 -- How long lines are.
-use Rattle.std.proofs.Common.{◌≡◌, ℕ, zero, suc, ◌+◌, ◌-◌, ◌<◌, ◌≤◌, ◌^◌, ◌==◌, Bool, true, false, if◌then◌else◌, List, [], ◌∷◌, ◌++◌, length, replicate, codes, decimal, refl, arith, length-append}
+use Rattle.std.proofs.Common.{◌≡◌, ℕ, zero, suc, ◌+◌, ◌-◌, ◌<◌, ◌≤◌, ◌^◌, ◌==◌, Bool, true, false, if◌then◌else◌, List}
+use Rattle.std.proofs.Common.{[], ◌∷◌, ◌++◌, length, replicate, codes, decimal, refl, arith, length-append}
 use Rattle.std.proofs.lemmas.List.{length-replicate}
 use Rattle.std.proofs.lemmas.Fmt.{length-decimal-le}
 use Rattle.map_body.specs.declared.element.Element.{Element}
@@ -7,7 +8,8 @@ use Rattle.map_body.specs.declared.interval.Interval.{Interval}
 use Rattle.map_body.specs.Rules.{FitsElement}
 use Rattle.map_body.specs.Sids.{everybody}
 use Rattle.map_text.specs.Bars.{columns, bar_mark, column_owner, bar, owners}
-use Rattle.map_text.specs.Lines.{right, left, indent, waits, span_text, sid_name, owner_name, bar_sign, interval_front, interval_line, waiting_line, head_line, owners_line}
+use Rattle.map_text.specs.Lines.{right, left, indent, waits, span_text, sid_name, owner_name, bar_sign, interval_front}
+use Rattle.map_text.specs.Lines.{interval_line, waiting_line, head_line, owners_line}
 use Rattle.map_text.specs.Columns.{FitsInterval, LinesFit}
 
 columns_len : (mark : ℕ → ℕ) (n : ℕ) → length (columns mark n) ≡ n

@@ -1,5 +1,6 @@
 -- Bars of 60 columns: what of a MAP's minislots is whose.
-use Rattle.std.specs.Prelude.{ℕ, zero, suc, ◌+◌, ◌*◌, ◌/◌, ◌%◌, ◌==◌, Bool, ◌&&◌, nat_lt, if◌then◌else◌, List, [], ◌∷◌, ◌++◌}
+use Rattle.std.specs.Prelude.{ℕ, zero, suc, ◌+◌, ◌*◌, ◌/◌, ◌%◌, ◌==◌, Bool, ◌&&◌, nat_lt, if◌then◌else◌, List, [], ◌∷◌}
+use Rattle.std.specs.Prelude.{◌++◌}
 use Rattle.map_body.specs.declared.interval.Interval.{Interval}
 use Rattle.map_body.specs.Iucs.{initial_maintenance, request, station_maintenance}
 use Rattle.map_body.specs.Sids.{everybody}

@@ -1,5 +1,6 @@
 -- The MAPs of a plan as text: for each channel its MAPs in order, and then what became of each of its requests.
-use Rattle.std.specs.Prelude.{ℕ, ◌+◌, ◌-◌, ◌/◌, ◌%◌, ◌^◌, ◌==◌, if◌then◌else◌, List, [], ◌∷◌, ◌++◌, Option, Some, None, flat_map, codes, decimal}
+use Rattle.std.specs.Prelude.{ℕ, ◌+◌, ◌-◌, ◌/◌, ◌%◌, ◌^◌, ◌==◌, if◌then◌else◌, List, [], ◌∷◌, ◌++◌, Option, Some, None}
+use Rattle.std.specs.Prelude.{flat_map, codes, decimal}
 use Rattle.plan_account.specs.declared.deed.Deed.{Deed}
 use Rattle.plan_account.specs.declared.deed.Deed.TheVariants as deeds
 use Rattle.plan_account.specs.declared.past.Fate.{Fate}

@@ -2,7 +2,8 @@
 
 ghost use Rattle.std.specs.Prelude.{◌≡◌, ◌++◌, ◌<◌, ◌≤◌, OnOk, replicate};
 ghost use Rattle.plan_account.specs.Cover.{holds};
-ghost use Rattle.map_text.specs.Bars.{bar_columns, shares, bar_mark, bar, open_mark, owner_mark, owner_at, column_owner, owners};
+ghost use Rattle.map_text.specs.Bars.{bar_columns, shares, bar_mark, bar, open_mark, owner_mark, owner_at};
+ghost use Rattle.map_text.specs.Bars.{column_owner, owners};
 
 use map_body::{Interval, Iuc, Sid};
 use std::alloc::AllocError;

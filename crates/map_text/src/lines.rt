@@ -1,7 +1,9 @@
 //! A MAP as lines.
 
-ghost use Rattle.std.specs.Prelude.{◌≡◌, ◌++◌, ◌-◌, length, replicate, decimal, flat_map, codes, IfOk, OnOk, string_bytes};
-ghost use Rattle.map_text.specs.Lines.{right, left, indent, waits, span_text, sid_name, owner_name, bar_sign, interval_front, interval_line, waiting_line, head_line, owners_line, map_lines};
+ghost use Rattle.std.specs.Prelude.{◌≡◌, ◌++◌, ◌-◌, length, replicate, decimal, flat_map, codes, IfOk, OnOk};
+ghost use Rattle.std.specs.Prelude.{string_bytes};
+ghost use Rattle.map_text.specs.Lines.{right, left, indent, waits, span_text, sid_name, owner_name, bar_sign};
+ghost use Rattle.map_text.specs.Lines.{interval_front, interval_line, waiting_line, head_line, owners_line, map_lines};
 
 use crate::bars::{open_mark, put_bar, put_owners};
 use map_body::{Element, Interval, Iuc, Sid};

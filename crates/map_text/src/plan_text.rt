@@ -1,7 +1,8 @@
 //! The MAPs of a plan, channel by channel.
 
 ghost use Rattle.std.specs.Prelude.{◌≡◌, ◌++◌, ◌≤◌, ◌<◌, ◌^◌, flat_map, IfOk, OnOk, string_bytes};
-ghost use Rattle.map_text.specs.Texts.{maps_in, deed_lines, maps_from, fate_text, request_line, told_text, why_line, request_lines, channel_text};
+ghost use Rattle.map_text.specs.Texts.{maps_in, deed_lines, maps_from, fate_text, request_line, told_text, why_line};
+ghost use Rattle.map_text.specs.Texts.{request_lines, channel_text};
 
 use crate::lines::{MapPlace, put_map};
 use plan_account::{Account, Deed, Fate, RequestRow, Told, Why, why_last, why_words};
@@ -22,32 +23,33 @@ fn maps_in(ch: u8, deed: &Deed) -> usize
     }
 }
 
-fn put_deed(
-    alloc: Global,
-    out: &mut Vec<u8>,
+/// A channel, how many MAPs of it came before a command, and the command's number.
+#[derive(Clone, Copy)]
+struct Before {
     ch: u8,
     maps: usize,
     command: usize,
-    deed: &Deed,
-) -> Result<(), AllocError>
-    requires { maps < 2 ^ 63 }
-    ensures { OnOk result (out.new.items ≡ out.old.items ++ deed_lines ch maps command deed.now) }
+}
+
+fn put_deed(alloc: Global, out: &mut Vec<u8>, before: Before, deed: &Deed) -> Result<(), AllocError>
+    requires { before.maps < 2 ^ 63 }
+    ensures { OnOk result (out.new.items ≡ out.old.items ++ deed_lines before.ch before.maps before.command deed.now) }
 {
     match deed {
         Deed::Map {
-            ch: c,
+            ch,
             start,
             len,
             map,
             ..
         } => {
-            if *c != ch {
+            if *ch != before.ch {
                 return Ok(());
             }
             let place = MapPlace {
-                ch,
-                number: maps + 1,
-                command,
+                ch: *ch,
+                number: before.maps + 1,
+                command: before.command,
                 start: start.get(),
                 len: *len,
             };
@@ -67,7 +69,8 @@ fn put_maps(alloc: Global, out: &mut Vec<u8>, ch: u8, deeds: &[Deed]) -> Result<
     let mut maps = 0;
     let mut command = 1;
     for deed in deeds {
-        put_deed(alloc, out, ch, maps, command, deed)?;
+        let before = Before { ch, maps, command };
+        put_deed(alloc, out, before, deed)?;
         maps += maps_in(ch, deed);
         command += 1;
     }

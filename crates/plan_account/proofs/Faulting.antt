@@ -4,7 +4,8 @@ use Rattle.map_body.specs.Body.{Body}
 use Rattle.map_body.specs.Layout.{IsBody, ReadingFault}
 use Rattle.map_body.specs.Intervals.{intervals}
 use Rattle.map_body.specs.declared.fault.MapFault.{MapFault}
-use Rattle.map_body.specs.declared.fault.MapFault.TheVariants.{Short, Trailing, Expansion, OutOfOrder, NoNull, OutOfMemory, TooMany}
+use Rattle.map_body.specs.declared.fault.MapFault.TheVariants.{Short, Trailing, Expansion, OutOfOrder, NoNull}
+use Rattle.map_body.specs.declared.fault.MapFault.TheVariants.{OutOfMemory, TooMany}
 use Rattle.map_body.proofs.Callers.{one_body, body_no_fault}
 use Rattle.grant_machine.specs.declared.command.Command.{Command}
 use Rattle.grant_machine.specs.declared.output.Output.{Output}

@@ -1,5 +1,6 @@
 -- The tables of flows, with more happenings.
-use Rattle.std.proofs.Common.{◌≡◌, ℕ, ◌+◌, List, [], ◌∷◌, ◌++◌, length, Result, OnOk, sym, ap, ◌∙◌, append-nil, append_assoc, length-append, add-zero, arith}
+use Rattle.std.proofs.Common.{◌≡◌, ℕ, ◌+◌, List, [], ◌∷◌, ◌++◌, length, Result, OnOk, sym, ap, ◌∙◌, append-nil}
+use Rattle.std.proofs.Common.{append_assoc, length-append, add-zero, arith}
 use Rattle.std.proofs.lemmas.List.Sums.{fold-append}
 use Rattle.std.specs.List.{fold}
 use Rattle.plan_account.specs.declared.deed.Deed.{Deed}

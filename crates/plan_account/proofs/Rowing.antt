@@ -9,7 +9,8 @@ use Rattle.plan_account.specs.declared.flows.Flows.{Flows}
 use Rattle.plan_account.specs.declared.past.LeaseRow.{LeaseRow}
 use Rattle.plan_account.specs.declared.past.RequestRow.{RequestRow}
 use Rattle.plan_account.specs.declared.reach.Reach.{Reach}
-use Rattle.plan_account.specs.Accounts.{ArePasts, AreLeases, AreRequests, lease_command, leases_in, request_command, requests_in}
+use Rattle.plan_account.specs.Accounts.{ArePasts, AreLeases, AreRequests, lease_command, leases_in, request_command}
+use Rattle.plan_account.specs.Accounts.{requests_in}
 use Rattle.plan_account.specs.FlowsHeld.{at_in, HoldsFlows}
 use Rattle.plan_account.specs.Happenings.{told_by}
 use Rattle.plan_account.specs.Pasts.{Past, At, at_key, leases_at, requests_at}

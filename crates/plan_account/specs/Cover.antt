@@ -1,5 +1,6 @@
 -- Intervals that follow one another.
-use Rattle.std.specs.Prelude.{◌≡◌, ℕ, ◌+◌, ◌-◌, ◌<◌, ◌≤◌, ◌==◌, Bool, ◌&&◌, nat_le, nat_lt, if◌then◌else◌, IsTrue, List, [], ◌∷◌}
+use Rattle.std.specs.Prelude.{◌≡◌, ℕ, ◌+◌, ◌-◌, ◌<◌, ◌≤◌, ◌==◌, Bool, ◌&&◌, nat_le, nat_lt, if◌then◌else◌, IsTrue, List}
+use Rattle.std.specs.Prelude.{[], ◌∷◌}
 use Rattle.map_body.specs.declared.interval.Interval.{Interval}
 
 -- the first begins at this offset, each where the one before it ends, and the last ends at that offset

@@ -5,7 +5,8 @@ use Rattle.map_body.specs.Body.{Body}
 use Rattle.map_body.specs.Intervals.{intervals}
 use Rattle.map_body.specs.Layout.{IsBody, FirstFault}
 use Rattle.map_body.specs.declared.fault.MapFault.{MapFault}
-use Rattle.map_body.specs.declared.fault.MapFault.TheVariants.{Short, Trailing, Expansion, OutOfOrder, NoNull, OutOfMemory, TooMany}
+use Rattle.map_body.specs.declared.fault.MapFault.TheVariants.{Short, Trailing, Expansion, OutOfOrder, NoNull}
+use Rattle.map_body.specs.declared.fault.MapFault.TheVariants.{OutOfMemory, TooMany}
 use Rattle.flow_state.specs.Rows.{Rows}
 use Rattle.flow_state.specs.Firm.{AreFirm}
 use Rattle.grant_machine.specs.declared.command.Command.{Command}

@@ -1,5 +1,6 @@
 -- What deeds tell of flows: pairs of a key, for a SID of a channel, and what happens there.
-use Rattle.std.specs.Prelude.{ℕ, ◌+◌, ◌-◌, ◌*◌, ◌^◌, ◌==◌, ◌&&◌, not, Bool, if◌then◌else◌, max, List, [], ◌∷◌, ◌++◌, flat_map, fold, length}
+use Rattle.std.specs.Prelude.{ℕ, ◌+◌, ◌-◌, ◌*◌, ◌^◌, ◌==◌, ◌&&◌, not, Bool, if◌then◌else◌, max, List, [], ◌∷◌, ◌++◌}
+use Rattle.std.specs.Prelude.{flat_map, fold, length}
 use Rattle.std.specs.List.{filter}
 use Rattle.map_body.specs.declared.element.Element.{Element}
 use Rattle.map_body.specs.declared.interval.Interval.{Interval}

@@ -1,5 +1,6 @@
 -- What has happened to the flow of a SID, one happening after another.
-use Rattle.std.specs.Prelude.{ℕ, ◌+◌, ◌/◌, ◌^◌, ◌==◌, ◌&&◌, nat_le, min, Bool, false, if◌then◌else◌, List, [], ◌∷◌, ◌++◌, fold, Option, Some, None, unwrap_or}
+use Rattle.std.specs.Prelude.{ℕ, ◌+◌, ◌/◌, ◌^◌, ◌==◌, ◌&&◌, nat_le, min, Bool, false, if◌then◌else◌, List, [], ◌∷◌}
+use Rattle.std.specs.Prelude.{◌++◌, fold, Option, Some, None, unwrap_or}
 use Rattle.plan_account.specs.declared.happening.Happening.{Happening}
 use Rattle.plan_account.specs.declared.happening.Happening.TheVariants as happens
 use Rattle.plan_account.specs.declared.past.Fate.{Fate}

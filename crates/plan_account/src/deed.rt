@@ -5,7 +5,8 @@ ghost use Rattle.map_body.specs.declared.fault.MapFault.TheVariants.{OutOfMemory
 ghost use Rattle.grant_machine.specs.declared.command.Command.{Command};
 ghost use Rattle.plan_account.specs.Cover.{follow};
 ghost use Rattle.plan_account.specs.declared.deed.Deed.{Deed};
-ghost use Rattle.plan_account.specs.Deeds.{quiet_deed, channel_deed, flow_deed, BodyFault, IsWhole, IsDeedOf, IsDeedFault, channels_of, keep_of};
+ghost use Rattle.plan_account.specs.Deeds.{quiet_deed, channel_deed, flow_deed, BodyFault, IsWhole, IsDeedOf};
+ghost use Rattle.plan_account.specs.Deeds.{IsDeedFault, channels_of, keep_of};
 
 use crate::shown::ShownMap;
 use flow_state::FlowKind;

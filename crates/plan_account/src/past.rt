@@ -153,7 +153,8 @@ fn lease_row(key: u32, lease: Lease, until: u64, starts: &[u64]) -> LeaseRow
 
 impl FlowPast {
     ghost use Rattle.std.specs.Prelude.{◌≡◌, ◌++◌, IfOk, OnOk};
-    ghost use Rattle.plan_account.specs.Pasts.{no_past, answered, closed, settled, with_lease, with_ask, started, with_given, waits_on, past_step, requests_at, leases_at};
+    ghost use Rattle.plan_account.specs.Pasts.{no_past, answered, closed, settled, with_lease, with_ask, started};
+    ghost use Rattle.plan_account.specs.Pasts.{with_given, waits_on, past_step, requests_at, leases_at};
 
     /// Nothing has happened.
     pub(crate) fn new(alloc: Global, key: u32) -> FlowPast

@@ -1,7 +1,8 @@
 //! The windows of a flow's due times, as they pass.
 
 ghost use Rattle.std.specs.Prelude.{◌≡◌, OnOk, IfOk};
-ghost use Rattle.plan_account.specs.Windows.{windows_of, windows_past, is_past, grants_past, windows_missed, count_past, count_missed};
+ghost use Rattle.plan_account.specs.Windows.{windows_of, windows_past, is_past, grants_past, windows_missed};
+ghost use Rattle.plan_account.specs.Windows.{count_past, count_missed};
 
 use flow_state::FlowKind;
 

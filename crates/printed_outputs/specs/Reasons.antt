@@ -3,7 +3,8 @@ use Rattle.std.specs.Prelude.{ℕ, List, ◌++◌, codes, decimal}
 use Rattle.flow_state.specs.declared.refusal.Refusal.{Refusal}
 use Rattle.flow_state.specs.declared.refusal.Refusal.TheVariants as refusals
 use Rattle.flow_state.specs.declared.reason.Field.{Field}
-use Rattle.flow_state.specs.declared.reason.Field.TheVariants.{ShortMax, Ranging, Data, Base, Priority, Size, Interval, Last, Minislots, Sent, Len, NotBefore, Ack, Keep, End}
+use Rattle.flow_state.specs.declared.reason.Field.TheVariants.{ShortMax, Ranging, Data, Base, Priority, Size, Interval}
+use Rattle.flow_state.specs.declared.reason.Field.TheVariants.{Last, Minislots, Sent, Len, NotBefore, Ack, Keep, End}
 use Rattle.flow_state.specs.declared.reason.Reason.{Reason}
 use Rattle.flow_state.specs.declared.reason.Reason.TheVariants as reasons
 use Rattle.flow_state.specs.Reasons.{reason_refusal}

@@ -1,6 +1,7 @@
 -- The text of elements that are joined is that of both, one behind the other.
 use Rattle.std.proofs.Common.{◌≡◌, ℕ, List, [], ◌∷◌, ◌++◌, codes, refl, ap, ◌∙◌, sym, append_assoc}
-use Rattle.xml_text.specs.Xml.{Attribute, Drawn, Xml, attributes_of, attributes_text, hollow_text, join, layers_of, name_of, plain, render, whole_text}
+use Rattle.xml_text.specs.Xml.{Attribute, Drawn, Xml, attributes_of, attributes_text, hollow_text, join, layers_of}
+use Rattle.xml_text.specs.Xml.{name_of, plain, render, whole_text}
 use Rattle.xml_text.specs.Xml.Xml.{Nothing, Hollow, Saying, Holding}
 
 -- what follows attributes may be parted

@@ -1,10 +1,13 @@
 -- What is rendered is well-formed.
-use Rattle.std.proofs.Common.{◌≡◌, ℕ, zero, suc, ◌+◌, ◌/◌, ◌%◌, ◌<◌, ◌==◌, Bool, true, false, ◌&&◌, if◌then◌else◌, List, [], ◌∷◌, ◌++◌, codes, decimal, refl, arith}
+use Rattle.std.proofs.Common.{◌≡◌, ℕ, zero, suc, ◌+◌, ◌/◌, ◌%◌, ◌<◌, ◌==◌, Bool, true, false, ◌&&◌, if◌then◌else◌, List}
+use Rattle.std.proofs.Common.{[], ◌∷◌, ◌++◌, codes, decimal, refl, arith}
 use Rattle.std.proofs.lemmas.Bool.Decides.{nat_tests}
 use Rattle.std.specs.Fmt.{digits, digits_onto, digit_glyph}
 use Rattle.std.specs.List.{list_all}
-use Rattle.xml_text.specs.Xml.{Drawn, Tag, Xml, attributes_of, contents, drawing, is_plain, name_of, plain, plain_byte, render}
-use Rattle.xml_text.specs.Xml.Tag.{Svg, Title, Style, Definitions, Group, ArrowHead, Pattern, Line, Rectangle, Circle, Path, Words}
+use Rattle.xml_text.specs.Xml.{Drawn, Tag, Xml, attributes_of, contents, drawing, is_plain, name_of, plain, plain_byte}
+use Rattle.xml_text.specs.Xml.{render}
+use Rattle.xml_text.specs.Xml.Tag.{Svg, Title, Style, Definitions, Group, ArrowHead, Pattern, Line, Rectangle, Circle}
+use Rattle.xml_text.specs.Xml.Tag.{Path, Words}
 use Rattle.xml_text.specs.Xml.Xml.{Nothing, Hollow, Saying, Holding}
 use Rattle.xml_text.specs.WellFormed.{AreAttributes, IsContent, IsDocument, IsText, is_name}
 use Rattle.xml_text.specs.WellFormed.IsContent.{Text, Hollow as HollowContent, Whole}
@@ -64,7 +67,7 @@ named Group = refl
 named (ArrowHead id) = refl
 named (Pattern id size) = refl
 named (Line x1 y1 x2 y2 class) = refl
-named (Rectangle x y width height radius class) = refl
+named (Rectangle x y width height class) = refl
 named (Circle x y radius class) = refl
 named (Path steps class) = refl
 named (Words x y class) = refl
@@ -86,10 +89,10 @@ attributed (Line x1 y1 x2 y2 class) = record {
   distinct = refl;
   values = (decimal_text x1, (decimal_text y1, (decimal_text x2, (decimal_text y2, (plain_text class, tt)))));
 }
-attributed (Rectangle x y width height radius class) = record {
+attributed (Rectangle x y width height class) = record {
   names = refl;
   distinct = refl;
-  values = (decimal_text x, (decimal_text y, (decimal_text width, (decimal_text height, (decimal_text radius, (plain_text class, tt))))));
+  values = (decimal_text x, (decimal_text y, (decimal_text width, (decimal_text height, (refl, (plain_text class, tt))))));
 }
 attributed (Circle x y radius class) = record { names = refl; distinct = refl; values = (decimal_text x, (decimal_text y, (decimal_text radius, (plain_text class, tt)))) }
 attributed (Path steps class) = record { names = refl; distinct = refl; values = (plain_text steps, (plain_text class, tt)) }

@@ -1,20 +1,21 @@
 -- Long texts of elements, over plain variables.
 use Rattle.std.proofs.Common.{◌≡◌, ℕ, List, [], ◌++◌, codes, decimal, ap, ◌∙◌, sym, append_assoc}
-use Rattle.xml_text.specs.Xml.{Drawn, Xml, arrow_head, contents, drawing, join, layers_of, pattern, plain, render, said, shape}
+use Rattle.xml_text.specs.Xml.{Drawn, Xml, arrow_head, contents, drawing, join, layers_of, pattern, plain, render, said}
+use Rattle.xml_text.specs.Xml.{shape}
 use Rattle.xml_text.specs.Xml.Tag.{Definitions, Path, Rectangle, Style, Title}
 use Rattle.xml_text.specs.Xml.Xml.{Holding, Nothing}
 use Rattle.xml_text.proofs.Joined.{render_join, render_layers}
 use Rattle.xml_text.proofs.Pushed.{begun}
 
-pub rectangle_is : (x y width height radius : ℕ) (class own tail text : List ℕ) → own ≡ plain class
-    → tail ≡ codes " height=\"" ++ (decimal height ++ (codes "\" rx=\"" ++ (decimal radius ++ (codes "\" class=\"" ++ (own ++ codes "\"/>")))))
+pub rectangle_is : (x y width height : ℕ) (class own tail text : List ℕ) → own ≡ plain class
+    → tail ≡ codes " height=\"" ++ (decimal height ++ (codes "\" rx=\"0\" class=\"" ++ (own ++ codes "\"/>")))
     → text ≡ codes "<rect x=\"" ++ (decimal x ++ (codes "\" y=\"" ++ (decimal y ++ (codes "\" width=\"" ++ (decimal width ++ (codes "\"" ++ tail))))))
-    → text ≡ render (shape (Rectangle x y width height radius class))
-rectangle_is x y width height radius class own tail text is_own is_tail is_text =
+    → text ≡ render (shape (Rectangle x y width height class))
+rectangle_is x y width height class own tail text is_own is_tail is_text =
     is_text
     ∙ ap (λ t. codes "<rect x=\"" ++ (decimal x ++ (codes "\" y=\"" ++ (decimal y ++ (codes "\" width=\"" ++ (decimal width ++ (codes "\"" ++ t))))))) is_tail
     ∙ ap (λ t. codes "<rect x=\"" ++ (decimal x ++ (codes "\" y=\"" ++ (decimal y ++ (codes "\" width=\"" ++ (decimal width ++ (codes "\" height=\"" ++ (decimal height
-    ++ (codes "\" rx=\"" ++ (decimal radius ++ (codes "\" class=\"" ++ (t ++ codes "\"/>")))))))))))) is_own
+    ++ (codes "\" rx=\"0\" class=\"" ++ (t ++ codes "\"/>")))))))))) is_own
 
 pub arrow_head_is : (id class own path text : List ℕ) → own ≡ plain id → path ≡ render (shape (Path (codes "M0 0L8 4L0 8z") class))
     → text ≡ codes "<marker id=\"" ++ (own
@@ -37,13 +38,13 @@ pattern_is id size steps class own path text is_own is_path is_text =
 -- what is in a drawing, element by element
 pub contents_is : (width height : ℕ) (title style : List ℕ) (known : Xml) (d : Drawn) (o0 o1 o2 o3 o4 o5 : List ℕ) → o0 ≡ []
     → o1 ≡ o0 ++ render (said Title title) → o2 ≡ o1 ++ render (said Style style) → o3 ≡ o2 ++ render (Holding Definitions known Nothing)
-    → o4 ≡ o3 ++ render (shape (Rectangle 0 0 width height 0 (codes "bg"))) → o5 ≡ o4 ++ render (layers_of d)
+    → o4 ≡ o3 ++ render (shape (Rectangle 0 0 width height (codes "bg"))) → o5 ≡ o4 ++ render (layers_of d)
     → o5 ≡ render (contents width height title style known d)
 contents_is width height title style known d o0 o1 o2 o3 o4 o5 nothing titled styled defined grounded layered =
     let a : Xml = said Title title in
     let b : Xml = said Style style in
     let c : Xml = Holding Definitions known Nothing in
-    let g : Xml = shape (Rectangle 0 0 width height 0 (codes "bg")) in
+    let g : Xml = shape (Rectangle 0 0 width height (codes "bg")) in
     let one : o1 ≡ render a = begun _ _ _ nothing titled in
     let two : o2 ≡ render (join a b) = styled ∙ ap (λ t. t ++ render b) one ∙ sym (render_join a b) in
     let three : o3 ≡ render (join (join a b) c) = defined ∙ ap (λ t. t ++ render c) two ∙ sym (render_join (join a b) c) in

@@ -1,5 +1,6 @@
 -- A drawing as a tree of elements, and its text.
-use Rattle.std.specs.Prelude.{ℕ, Bool, if◌then◌else◌, nat_lt, ◌==◌, ◌&&◌, ◌||◌, not, List, [], ◌∷◌, ◌++◌, map, codes, decimal}
+use Rattle.std.specs.Prelude.{ℕ, Bool, if◌then◌else◌, nat_lt, ◌==◌, ◌&&◌, ◌||◌, not, List, [], ◌∷◌, ◌++◌, map, codes}
+use Rattle.std.specs.Prelude.{decimal}
 
 -- ---- texts
 
@@ -27,7 +28,7 @@ pub data Tag : Type 0 where
   ArrowHead : (id : List ℕ) → Tag
   Pattern : (id : List ℕ) → (size : ℕ) → Tag
   Line : (x1 y1 x2 y2 : ℕ) → (class : List ℕ) → Tag
-  Rectangle : (x y width height radius : ℕ) → (class : List ℕ) → Tag
+  Rectangle : (x y width height : ℕ) → (class : List ℕ) → Tag
   Circle : (x y radius : ℕ) → (class : List ℕ) → Tag
   Path : (steps class : List ℕ) → Tag
   Words : (x y : ℕ) → (class : List ℕ) → Tag
@@ -62,7 +63,7 @@ name_of Group = codes "g"
 name_of (ArrowHead id) = codes "marker"
 name_of (Pattern id size) = codes "pattern"
 name_of (Line x1 y1 x2 y2 class) = codes "line"
-name_of (Rectangle x y width height radius class) = codes "rect"
+name_of (Rectangle x y width height class) = codes "rect"
 name_of (Circle x y radius class) = codes "circle"
 name_of (Path steps class) = codes "path"
 name_of (Words x y class) = codes "text"
@@ -97,8 +98,8 @@ attributes_of (Pattern id size) =
     words (codes "id") id ∷ number (codes "width") size ∷ number (codes "height") size ∷ fixed (codes "patternUnits") (codes "userSpaceOnUse") ∷ []
 attributes_of (Line x1 y1 x2 y2 class) =
     number (codes "x1") x1 ∷ number (codes "y1") y1 ∷ number (codes "x2") x2 ∷ number (codes "y2") y2 ∷ words (codes "class") class ∷ []
-attributes_of (Rectangle x y width height radius class) =
-    number (codes "x") x ∷ number (codes "y") y ∷ number (codes "width") width ∷ number (codes "height") height ∷ number (codes "rx") radius
+attributes_of (Rectangle x y width height class) =
+    number (codes "x") x ∷ number (codes "y") y ∷ number (codes "width") width ∷ number (codes "height") height ∷ fixed (codes "rx") (codes "0")
     ∷ words (codes "class") class ∷ []
 attributes_of (Circle x y radius class) =
     number (codes "cx") x ∷ number (codes "cy") y ∷ number (codes "r") radius ∷ words (codes "class") class ∷ []
@@ -163,7 +164,7 @@ layers_of d = join d.rules (join d.bands (join d.arrows (join d.marks d.labels))
 -- what is in a drawing: its title, its style and definitions, its ground and its layers
 abbrev pub contents : (width height : ℕ) → (title style : List ℕ) → (definitions : Xml) → Drawn → Xml
 contents width height title style definitions d =
-    Saying Title title (Saying Style style (Holding Definitions definitions (Hollow (Rectangle 0 0 width height 0 (codes "bg")) (layers_of d))))
+    Saying Title title (Saying Style style (Holding Definitions definitions (Hollow (Rectangle 0 0 width height (codes "bg")) (layers_of d))))
 
 -- a drawing of a size
 abbrev pub drawing : (width height : ℕ) → (title style : List ℕ) → (definitions : Xml) → Drawn → Xml

@@ -7,6 +7,29 @@ ghost use Rattle.xml_text.specs.Xml.Tag.{Line, Rectangle, Circle, Path, Words};
 use crate::plain::plain;
 use std::alloc::{AllocError, Global};
 
+/// Where a rectangle is: its upper left corner, and how wide and how high it is.
+#[derive(Clone, Copy, Debug)]
+pub struct Area {
+    pub corner: (u64, u64),
+    pub size: (u64, u64),
+}
+
+/// Where a circle is: its middle, and its radius.
+#[derive(Clone, Copy, Debug)]
+pub struct Disc {
+    pub middle: (u64, u64),
+    pub radius: u64,
+}
+
+/// A pattern to fill with: its id, how many units it has each way, and the steps and the class of its path.
+#[derive(Clone, Copy, Debug)]
+pub struct Pattern<'a> {
+    pub id: &'a str,
+    pub size: u64,
+    pub steps: &'a str,
+    pub class: &'a str,
+}
+
 /// A straight line.
 pub fn add_line(
     alloc: Global,
@@ -26,37 +49,37 @@ pub fn add_line(
     out.push_str(text.as_str())
 }
 
-/// A rectangle by its corner, its size and the radius of its corners.
+/// A rectangle, whose corners aren't round.
 pub fn add_rectangle(
     alloc: Global,
     out: &mut String,
-    corner: (u64, u64),
-    size: (u64, u64),
-    radius: u64,
+    area: Area,
     class: &str,
 ) -> Result<(), AllocError>
-    ensures { OnOk result (string_bytes out.new ≡ string_bytes out.old ++ render (shape (Rectangle corner.0 corner.1 size.0 size.1 radius class.now))) }
+    ensures { OnOk result (string_bytes out.new ≡ string_bytes out.old
+        ++ render (shape (Rectangle area.corner.0 area.corner.1 area.size.0 area.size.1 class.now))) }
 {
     let class = plain(alloc, class)?;
-    let (x, y) = corner;
-    let (width, height) = size;
-    let tail = format!(in alloc; " height=\"{height}\" rx=\"{radius}\" class=\"{class}\"/>")?;
+    let (x, y) = area.corner;
+    let (width, height) = area.size;
+    let tail = format!(in alloc; " height=\"{height}\" rx=\"0\" class=\"{class}\"/>")?;
     let text = format!(in alloc; "<rect x=\"{x}\" y=\"{y}\" width=\"{width}\"{tail}")?;
     out.push_str(text.as_str())
 }
 
-/// A circle by its middle and its radius.
+/// A circle.
 pub fn add_circle(
     alloc: Global,
     out: &mut String,
-    middle: (u64, u64),
-    radius: u64,
+    disc: Disc,
     class: &str,
 ) -> Result<(), AllocError>
-    ensures { OnOk result (string_bytes out.new ≡ string_bytes out.old ++ render (shape (Circle middle.0 middle.1 radius class.now))) }
+    ensures { OnOk result (string_bytes out.new ≡ string_bytes out.old
+        ++ render (shape (Circle disc.middle.0 disc.middle.1 disc.radius class.now))) }
 {
     let class = plain(alloc, class)?;
-    let (x, y) = middle;
+    let (x, y) = disc.middle;
+    let radius = disc.radius;
     let text = format!(in alloc;
         "<circle cx=\"{x}\" cy=\"{y}\" r=\"{radius}\" class=\"{class}\"/>"
     )?;
@@ -125,14 +148,14 @@ pub fn add_titled_circle(
     alloc: Global,
     out: &mut String,
     title: &str,
-    middle: (u64, u64),
-    radius: u64,
+    disc: Disc,
     class: &str,
 ) -> Result<(), AllocError>
-    ensures { OnOk result (string_bytes out.new ≡ string_bytes out.old ++ render (titled title.now (shape (Circle middle.0 middle.1 radius class.now)))) }
+    ensures { OnOk result (string_bytes out.new ≡ string_bytes out.old
+        ++ render (titled title.now (shape (Circle disc.middle.0 disc.middle.1 disc.radius class.now)))) }
 {
     let mut inside = String::new(alloc);
-    add_circle(alloc, &mut inside, middle, radius, class)?;
+    add_circle(alloc, &mut inside, disc, class)?;
     add_titled(alloc, out, title, inside.as_str())
 }
 
@@ -154,20 +177,15 @@ pub fn add_arrow_head(
     out.push_str(text.as_str())
 }
 
-/// A pattern to fill with, of so many units each way.
-pub fn add_pattern(
-    alloc: Global,
-    out: &mut String,
-    id: &str,
-    size: u64,
-    steps: &str,
-    class: &str,
-) -> Result<(), AllocError>
-    ensures { OnOk result (string_bytes out.new ≡ string_bytes out.old ++ render (pattern id.now size steps.now class.now)) }
+/// A pattern to fill with.
+pub fn add_pattern(alloc: Global, out: &mut String, fill: &Pattern<'_>) -> Result<(), AllocError>
+    ensures { OnOk result (string_bytes out.new ≡ string_bytes out.old
+        ++ render (pattern fill.now.id.now fill.now.size fill.now.steps.now fill.now.class.now)) }
 {
-    let id = plain(alloc, id)?;
+    let id = plain(alloc, fill.id)?;
+    let size = fill.size;
     let mut path = String::new(alloc);
-    add_path(alloc, &mut path, steps, class)?;
+    add_path(alloc, &mut path, fill.steps, fill.class)?;
     let text = format!(in alloc;
         "<pattern id=\"{id}\" width=\"{size}\" height=\"{size}\" patternUnits=\"userSpaceOnUse\">{path}</pattern>"
     )?;

@@ -7,9 +7,18 @@ ghost use Rattle.xml_text.specs.Xml.Xml.{Holding, Nothing};
 ghost use Rattle.xml_text.specs.WellFormed.{IsContent, IsDocument};
 ghost use Rattle.xml_text.specs.Drawings.{AreDrawn};
 
-use crate::elements::add_rectangle;
+use crate::elements::{Area, add_rectangle};
 use crate::plain::plain;
 use std::alloc::{AllocError, Global};
+
+/// What a drawing is on: its size, its title, its style, and the text of its definitions.
+#[derive(Clone, Copy, Debug)]
+pub struct Sheet<'a> {
+    pub size: (u64, u64),
+    pub title: &'a str,
+    pub style: &'a str,
+    pub definitions: &'a str,
+}
 
 /// Five layers of elements, from the lowest on.
 #[derive(Debug, Drop)]
@@ -77,40 +86,30 @@ fn add_layers(out: &mut String, layers: &Layers) -> Result<(), AllocError>
 }
 
 /// What is in a drawing.
-fn contents(
-    alloc: Global,
-    size: (u64, u64),
-    title: &str,
-    style: &str,
-    definitions: &str,
-    layers: &Layers,
-) -> Result<String, AllocError>
-    ensures { (known : Xml) (d : Drawn) → definitions.now ≡ render known → AreDrawn layers.now d →
-        IfOk result (λ text. string_bytes text ≡ render (contents size.0 size.1 title.now style.now known d)) }
+fn contents(alloc: Global, sheet: &Sheet<'_>, layers: &Layers) -> Result<String, AllocError>
+    ensures { (known : Xml) (d : Drawn) → sheet.now.definitions.now ≡ render known → AreDrawn layers.now d → IfOk result (λ text.
+        string_bytes text ≡ render (contents sheet.now.size.0 sheet.now.size.1 sheet.now.title.now sheet.now.style.now known d)) }
 {
     let mut out = String::new(alloc);
-    add_title(alloc, &mut out, title)?;
-    add_style(alloc, &mut out, style)?;
-    add_definitions(alloc, &mut out, definitions)?;
-    add_rectangle(alloc, &mut out, (0, 0), size, 0, "bg")?;
+    let area = Area {
+        corner: (0, 0),
+        size: sheet.size,
+    };
+    add_title(alloc, &mut out, sheet.title)?;
+    add_style(alloc, &mut out, sheet.style)?;
+    add_definitions(alloc, &mut out, sheet.definitions)?;
+    add_rectangle(alloc, &mut out, area, "bg")?;
     add_layers(&mut out, layers)?;
     Ok(out)
 }
 
-/// A drawing of a size, with a title, a style, definitions whose text is given, and layers.
-pub fn drawing(
-    alloc: Global,
-    size: (u64, u64),
-    title: &str,
-    style: &str,
-    definitions: &str,
-    layers: &Layers,
-) -> Result<String, AllocError>
-    ensures { (known : Xml) (d : Drawn) → definitions.now ≡ render known → AreDrawn layers.now d →
-        IfOk result (λ text. string_bytes text ≡ render (drawing size.0 size.1 title.now style.now known d)) }
+/// A drawing of layers on a sheet.
+pub fn drawing(alloc: Global, sheet: &Sheet<'_>, layers: &Layers) -> Result<String, AllocError>
+    ensures { (known : Xml) (d : Drawn) → sheet.now.definitions.now ≡ render known → AreDrawn layers.now d → IfOk result (λ text.
+        string_bytes text ≡ render (drawing sheet.now.size.0 sheet.now.size.1 sheet.now.title.now sheet.now.style.now known d)) }
 {
-    let inside = contents(alloc, size, title, style, definitions, layers)?;
-    let (width, height) = size;
+    let inside = contents(alloc, sheet, layers)?;
+    let (width, height) = sheet.size;
     let tail = format!(in alloc; " viewBox=\"0 0 {width} {height}\" role=\"img\">{inside}</svg>")?;
     let text = format!(in alloc;
         "<svg xmlns=\"http://www.w3.org/2000/svg\" width=\"{width}\" height=\"{height}\"{tail}"

@@ -14,4 +14,4 @@ returns c =
     (behind _ _ _ (join (join line before) sent) told
     (behind _ _ _ (join line before) sent
     (behind _ _ _ line before c.in_ok-add_asked_line.ensures c.in_ok-add_before.ensures)
-    c.in_ok-add_sent_mark.ensures) (rw c.why_last.ensures at c.in_ok-add_told_mark.ensures)) c.in_ok-add_end_mark.ensures
+    c.in_ok-add_sent_mark.ensures) c.in_ok-add_told_mark.ensures) c.in_ok-add_end_mark.ensures

@@ -4,5 +4,5 @@ use Rattle.map_picture.proofs.cells.add_cell.Goals as goal
 
 pub returns : goal.returns
 returns c =
-    behind _ _ _ (cell_shape c.args.left c.args.len c.args.y c.args.interval.now) (cell_words c.args.left c.args.len c.args.y c.args.interval.now)
+    behind _ _ _ (cell_shape c.args.strip.now c.args.interval.now) (cell_words c.args.strip.now c.args.interval.now)
     c.in_ok-add_cell_shape.ensures c.in_ok-add_cell_words.ensures

@@ -6,4 +6,4 @@ use Rattle.map_picture.proofs.cells.add_cells.Given as goal
 
 -- each so far
 abbrev pub invariant-loop-k : goal.invariant-loop-k
-invariant-loop-k l = string_bytes l.out ≡ string_bytes l.initial.out ++ render (each l.k (cell_at l.left l.len l.y l.intervals))
+invariant-loop-k l = string_bytes l.out ≡ string_bytes l.initial.out ++ render (each l.k (cell_at l.strip l.intervals))

@@ -6,4 +6,4 @@ use Rattle.map_picture.proofs.drawn.add_channels.Given as goal
 
 -- each so far
 abbrev pub invariant-loop-k : goal.invariant-loop-k
-invariant-loop-k l = string_bytes l.out ≡ string_bytes l.initial.out ++ render (each l.k (channel_at l.account l.sent l.channels l.tops))
+invariant-loop-k l = string_bytes l.out ≡ string_bytes l.initial.out ++ render (each l.k (channel_at l.all))

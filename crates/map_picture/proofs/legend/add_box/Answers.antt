@@ -5,4 +5,4 @@ use Rattle.map_picture.proofs.legend.add_box.Goals as goal
 
 pub returns : goal.returns
 returns c =
-    grown _ _ (shape (Rectangle c.args.corner.0 c.args.corner.1 c.args.size.0 c.args.size.1 0 c.args.class.now)) c.requires c.in_ok-add_rectangle.ensures
+    grown _ _ (shape (Rectangle c.args.area.corner.0 c.args.area.corner.1 c.args.area.size.0 c.args.area.size.1 c.args.class.now)) c.requires c.in_ok-add_rectangle.ensures

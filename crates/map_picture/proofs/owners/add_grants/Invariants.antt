@@ -6,4 +6,4 @@ use Rattle.map_picture.proofs.owners.add_grants.Given as goal
 
 -- each so far
 abbrev pub invariant-loop-i : goal.invariant-loop-i
-invariant-loop-i l = string_bytes l.out ≡ string_bytes l.initial.out ++ render (each l.i (grants_at l.page l.deeds l.row l.y))
+invariant-loop-i l = string_bytes l.out ≡ string_bytes l.initial.out ++ render (each l.i (grants_at l.deeds l.owner))

@@ -6,4 +6,4 @@ use Rattle.map_picture.proofs.owners.add_grants_in.Given as goal
 
 -- each so far
 abbrev pub invariant-loop-k : goal.invariant-loop-k
-invariant-loop-k l = string_bytes l.out ≡ string_bytes l.initial.out ++ render (each l.k (grant_at l.axis l.row l.start l.y l.intervals))
+invariant-loop-k l = string_bytes l.out ≡ string_bytes l.initial.out ++ render (each l.k (grant_at l.owner l.start l.intervals))

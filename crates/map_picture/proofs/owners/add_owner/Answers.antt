@@ -6,10 +6,10 @@ use Rattle.map_picture.proofs.owners.add_owner.Goals as goal
 
 pub returns : goal.returns
 returns c =
-    let name : Xml = owner_name_at c.args.page.axis c.args.row.now c.args.y in
-    let due : Xml = windows c.args.page c.args.deeds.now c.args.y c.args.row.now in
-    let given : Xml = grants c.args.page c.args.deeds.now c.args.row.now c.args.y in
-    behind _ _ _ (join (join name due) given) (flow_at c.args.page.axis c.args.row.now c.args.y)
+    let name : Xml = owner_name_at c.args.owner.now in
+    let due : Xml = windows c.args.deeds.now c.args.owner.now in
+    let given : Xml = grants c.args.deeds.now c.args.owner.now in
+    behind _ _ _ (join (join name due) given) (flow_at c.args.owner.now)
     (behind _ _ _ (join name due) given
     (behind _ _ _ name due c.in_ok-add_owner_name.ensures c.in_ok-add_windows.ensures)
     c.in_ok-add_grants.ensures) c.in_ok-add_flow.ensures

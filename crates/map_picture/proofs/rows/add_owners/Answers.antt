@@ -3,4 +3,4 @@ use Rattle.map_picture.specs.Pictures.{owner_at}
 use Rattle.map_picture.proofs.rows.add_owners.Goals as goal
 
 pub loop-k-preserved : goal.loop-k-preserved
-loop-k-preserved c = each_more c.loop-k.k (owner_at c.args.page c.args.deeds.now c.args.top c.args.rows.now) _ _ _ c.loop-k.invariant c.in_ok-add_owner_at.ensures
+loop-k-preserved c = each_more c.loop-k.k (owner_at c.args.channel.now c.args.top) _ _ _ c.loop-k.invariant c.in_ok-add_owner_at.ensures

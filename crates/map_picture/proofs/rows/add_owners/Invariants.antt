@@ -6,4 +6,4 @@ use Rattle.map_picture.proofs.rows.add_owners.Given as goal
 
 -- each so far
 abbrev pub invariant-loop-k : goal.invariant-loop-k
-invariant-loop-k l = string_bytes l.out ≡ string_bytes l.initial.out ++ render (each l.k (owner_at l.page l.deeds l.top l.rows))
+invariant-loop-k l = string_bytes l.out ≡ string_bytes l.initial.out ++ render (each l.k (owner_at l.channel l.top))

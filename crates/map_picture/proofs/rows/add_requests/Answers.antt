@@ -3,4 +3,4 @@ use Rattle.map_picture.specs.Pictures.{request_at}
 use Rattle.map_picture.proofs.rows.add_requests.Goals as goal
 
 pub loop-k-preserved : goal.loop-k-preserved
-loop-k-preserved c = each_more c.loop-k.k (request_at c.args.axis c.args.top c.args.rows.now) _ _ _ c.loop-k.invariant c.in_ok-add_request_at.ensures
+loop-k-preserved c = each_more c.loop-k.k (request_at c.args.channel.now c.args.top) _ _ _ c.loop-k.invariant c.in_ok-add_request_at.ensures

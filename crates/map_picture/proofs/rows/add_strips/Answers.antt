@@ -3,4 +3,4 @@ use Rattle.map_picture.specs.Pictures.{strip_at}
 use Rattle.map_picture.proofs.rows.add_strips.Goals as goal
 
 pub loop-k-preserved : goal.loop-k-preserved
-loop-k-preserved c = each_more c.loop-k.k (strip_at c.args.deeds.now c.args.columns c.args.numbers.now c.args.sent.now c.args.top c.args.rows.now) _ _ _ c.loop-k.invariant c.in_ok-add_strip_at.ensures
+loop-k-preserved c = each_more c.loop-k.k (strip_at c.args.channel.now c.args.top) _ _ _ c.loop-k.invariant c.in_ok-add_strip_at.ensures

@@ -6,4 +6,4 @@ use Rattle.map_picture.proofs.scales.add_ticks.Given as goal
 
 -- each so far
 abbrev pub invariant-loop-k : goal.invariant-loop-k
-invariant-loop-k l = string_bytes l.out ≡ string_bytes l.initial.out ++ render (each l.k (tick_at l.left l.start l.len l.y l.numbers))
+invariant-loop-k l = string_bytes l.out ≡ string_bytes l.initial.out ++ render (each l.k (tick_at l.strip l.numbers))

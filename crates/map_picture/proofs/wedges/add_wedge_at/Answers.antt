@@ -9,5 +9,5 @@ returns c =
     let t : Sent = c.index-sent-k.result in
     let there : slice_get c.args.sent.now c.args.k ≡ Some t =
     slice_get_read c.args.sent.now (length c.args.sent.now) c.args.k t refl (omega (arith, c.if-k-sent.false)) c.index-sent-k.is in
-    one_wedge c.add_wedge.result _ _ c.args.sent.now c.args.ch c.args.left c.args.start c.args.len c.args.y c.args.k t c.collides.result there
+    one_wedge c.add_wedge.result _ _ c.args.sent.now c.args.strip.now c.args.k t c.collides.result there
     (sym c.is_in.ensures.value ∙ c.if-not-is_in.false) c.collides.ensures c.add_wedge.ensures

@@ -6,4 +6,4 @@ use Rattle.map_picture.proofs.wedges.add_wedges.Given as goal
 
 -- each so far
 abbrev pub invariant-loop-k : goal.invariant-loop-k
-invariant-loop-k l = string_bytes l.out ≡ string_bytes l.initial.out ++ render (each l.k (wedge_at l.sent l.ch l.left l.start l.len l.y))
+invariant-loop-k l = string_bytes l.out ≡ string_bytes l.initial.out ++ render (each l.k (wedge_at l.sent l.strip))

@@ -6,4 +6,4 @@ use Rattle.map_picture.proofs.windows.add_windows_from.Given as goal
 
 -- each so far
 abbrev pub invariant-loop-i : goal.invariant-loop-i
-invariant-loop-i l = string_bytes l.out ≡ string_bytes l.initial.out ++ render (each l.i (window_at l.axis l.y (counted l.dues) l.until l.found l.first))
+invariant-loop-i l = string_bytes l.out ≡ string_bytes l.initial.out ++ render (each l.i (window_at l.owner (counted l.dues) l.found l.first))

@@ -7,4 +7,4 @@ pub returns : goal.returns
 returns c =
     pushed c.push_str.result (string_bytes c.args.out.now) _ _ _ c.push_str.ensures.bytes
     (c.as_str.ensures.value
-    ∙ pattern_is c.args.id.now c.args.size c.args.steps.now c.args.class.now _ _ _ c.in_ok-id.ensures (begun _ _ _ c.new-path.ensures.bytes c.in_ok-add_path.ensures) c.in_ok-text.ensures.ok)
+    ∙ pattern_is c.args.fill.now.id.now c.args.fill.now.size c.args.fill.now.steps.now c.args.fill.now.class.now _ _ _ c.in_ok-id.ensures (begun _ _ _ c.new-path.ensures.bytes c.in_ok-add_path.ensures) c.in_ok-text.ensures.ok)

@@ -7,4 +7,4 @@ pub returns : goal.returns
 returns c =
     pushed c.push_str.result (string_bytes c.args.out.now) _ _ _ c.push_str.ensures.bytes
     (c.as_str.ensures.value
-    ∙ rectangle_is c.args.corner.0 c.args.corner.1 c.args.size.0 c.args.size.1 c.args.radius c.args.class.now _ _ _ c.in_ok-class.ensures c.in_ok-tail.ensures.ok c.in_ok-text.ensures.ok)
+    ∙ rectangle_is c.args.area.corner.0 c.args.area.corner.1 c.args.area.size.0 c.args.area.size.1 c.args.class.now _ _ _ c.in_ok-class.ensures c.in_ok-tail.ensures.ok c.in_ok-text.ensures.ok)
