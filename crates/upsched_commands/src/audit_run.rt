@@ -1,31 +1,28 @@
-//! `upsched audit --members M J0 J1 J2`: the journals are read from their files.
+//! `upsched audit --members M [--counts] J0 J1 J2`: the files of the journals are opened.
 
 use crate::opening::opened;
-use ballots::Bytes;
+use std::fs::File;
 use std::io::Write;
-use upsched_audit::{NO_JOURNALS, audit, audited_members, journal_of};
+use upsched_audit::{Asked, JournalFile, NO_JOURNALS, audit_files, audited_members};
 use upsched_ends::{Fault, Status};
 use upsched_words::AuditWords;
 
-/// The journal at this path.
-fn journal_at<'a>(rt: &HostRuntime, path: &'a str) -> Result<Bytes, Fault<'a>> {
-    let mut file = opened(rt, path)?;
-    journal_of(rt.alloc(), &mut file, path)
-}
-
-/// The journals at these paths.
-fn journals_at<'a>(rt: &HostRuntime, paths: &[&'a str]) -> Result<Vec<Bytes>, Fault<'a>> {
-    let mut journals = Vec::new(rt.alloc());
+/// The files at these paths.
+fn files_at<'a>(
+    rt: &HostRuntime,
+    paths: &[&'a str],
+) -> Result<Vec<JournalFile<'a, File>>, Fault<'a>> {
+    let mut files = Vec::new(rt.alloc());
     for path in paths {
-        let journal = journal_at(rt, *path)?;
-        if journals.push(journal).is_err() {
+        let file = opened(rt, *path)?;
+        if files.push(JournalFile { path: *path, file }).is_err() {
             return Err(Fault::Memory);
         }
     }
-    Ok(journals)
+    Ok(files)
 }
 
-/// Reads the journals that the words name and ends as `audit` does.
+/// Opens the journals that the words name and ends as `audit_files` does.
 pub(crate) fn run_audit<'a, O: Write, E: Write>(
     rt: &HostRuntime,
     words: &AuditWords<'a>,
@@ -36,6 +33,11 @@ pub(crate) fn run_audit<'a, O: Write, E: Write>(
         let _ = writeln!(errors, "{NO_JOURNALS}");
         return Ok(Status::NotUnderstood);
     };
-    let journals = journals_at(rt, words.journals.as_slice())?;
-    Ok(audit(rt.alloc(), members, journals.as_slice(), output, errors))
+    let files = files_at(rt, words.journals.as_slice())?;
+    let asked = Asked {
+        members,
+        paths: words.journals.as_slice(),
+        counts: words.counts,
+    };
+    Ok(audit_files(rt.alloc(), &asked, files, output, errors))
 }

@@ -2,6 +2,7 @@
 #![tactic(auto)]
 
 mod audit_run;
+mod host_run;
 mod journal_file;
 mod left_file;
 mod node_run;

@@ -7,7 +7,7 @@ use upsched_check::{
     CaptureWords, CheckWords, StatsWords, capture, check, draw_plan, draw_text, is_plan_text,
     stats, stats_as_json, tell_plan,
 };
-use upsched_draw::{draw_maps, draw_script, tell_maps};
+use upsched_draw::{Asked, ScriptDrawing, draw_maps, draw_script, tell_maps};
 use upsched_ends::{Fault, MapsWords, ScriptWords, Status, text_of};
 use upsched_json::maps_as_json;
 use upsched_maps::{maps, maps_named};
@@ -106,6 +106,15 @@ pub(crate) fn run_script_words<'a, O: Write, E: Write>(
     Ok(script(rt.alloc(), &mut plan, words, output, errors))
 }
 
+/// What is drawn of a script.
+fn script_drawing<'a>(words: &DrawWords<'a>) -> ScriptDrawing<'a> {
+    let (from, to) = words.events;
+    ScriptDrawing {
+        path: words.path,
+        asked: Asked { from, to },
+    }
+}
+
 /// Ends as `draw_script`, `draw_maps` or `tell_maps` does.
 fn draw_what_is_asked<'a, F: Read, O: Write, E: Write>(
     alloc: Global,
@@ -117,7 +126,7 @@ fn draw_what_is_asked<'a, F: Read, O: Write, E: Write>(
     match words.subject {
         Subject::Maps => draw_maps(alloc, script, words.path, output, errors),
         Subject::MapsText => tell_maps(alloc, script, words.path, output, errors),
-        _ => draw_script(alloc, script, words.path, output, errors),
+        _ => draw_script(alloc, script, &script_drawing(words), output, errors),
     }
 }
 

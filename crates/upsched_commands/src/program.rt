@@ -1,6 +1,7 @@
 //! From the words of the command line to how the program ends.
 
 use crate::audit_run::run_audit;
+use crate::host_run::run_host;
 use crate::node_run::run_node;
 use crate::plan_runs::{
     run_capture, run_check, run_draw, run_maps, run_maps_as_json, run_maps_named, run_script_words,
@@ -8,7 +9,7 @@ use crate::plan_runs::{
 };
 use crate::resume_run::run_resume;
 use crate::scheduler_run::run_scheduler;
-use crate::script_runs::{run_live, run_run, run_run_as_json};
+use crate::script_runs::{run_live, run_plain, run_run, run_run_as_json};
 use std::env;
 use std::io::{ErrorKind, Read, Write};
 use std::rt::Env;
@@ -19,7 +20,7 @@ use upsched_check::show_names;
 use upsched_ends::{Fault, Status};
 use upsched_json::show_as_json;
 use upsched_maps::show;
-use upsched_store::check_store;
+use upsched_store::{Trace, check_store};
 use upsched_words::{Words, read_words, refused};
 
 /// The words of the command line, or how the program ends without them.
@@ -51,8 +52,10 @@ fn run_command<'a, T: Threads + Wait + Clock + Sync + AllocGlobal, I: Read, O: W
 ) -> Result<Status, Fault<'a>> {
     match words {
         Words::Maps(words) => run_maps(rt, words, output, errors),
-        Words::Run(words) => run_run(rt, words, false, output, errors),
-        Words::Trace(words) => run_run(rt, words, true, output, errors),
+        Words::Run(words) => run_run(rt, words, Trace::Off, output, errors),
+        Words::Trace(words) => run_run(rt, words, Trace::Letters, output, errors),
+        Words::TraceNamed(words) => run_run(rt, words, Trace::Named, output, errors),
+        Words::PlainScript(words) => run_plain(rt, words, output, errors),
         Words::MapsNamed(words) => run_maps_named(rt, words, output, errors),
         Words::Resume(words) => Ok(run_resume(rt, words, output, errors)),
         Words::MapsAsJson(words) => run_maps_as_json(rt, words, output, errors),
@@ -71,6 +74,7 @@ fn run_command<'a, T: Threads + Wait + Clock + Sync + AllocGlobal, I: Read, O: W
         Words::Live(words) => run_live(rt, threads, words, output, errors),
         Words::Scheduler(form) => Ok(run_scheduler(rt.alloc(), *form, input, output, errors)),
         Words::Node(words, journal) => Ok(run_node(rt, words, *journal, input, output, errors)),
+        Words::Host(words) => Ok(run_host(rt.alloc(), words, input, output, errors)),
         Words::Audit(words) => run_audit(rt, words, output, errors),
     }
 }

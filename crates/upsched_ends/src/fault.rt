@@ -28,15 +28,6 @@ pub enum Fault<'a> {
     /// The folder or a file of a node's records can't be used.
     #[error("store")]
     Store,
-    /// There is no database, or an empty one, of a node that isn't new.
-    #[error("no store")]
-    NoStore,
-    /// Another process has the files open.
-    #[error("store in use")]
-    StoreInUse,
-    /// The files belong to another node, or to nobody.
-    #[error("store of {0}")]
-    StoreOf(&'static str),
     /// The node of a process crashed.
     #[error("crashed")]
     Crashed,

@@ -10,5 +10,5 @@ mod words;
 pub use fault::Fault;
 pub use members::{digit_of, members_of};
 pub use status::Status;
-pub use text::{plan_of, script_of, text_of};
+pub use text::{plan_of, steps_of, text_of};
 pub use words::{LiveWords, MapsWords, NodeWords, RunWords, ScriptWords, ShowWords};

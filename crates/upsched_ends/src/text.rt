@@ -2,13 +2,13 @@
 
 ghost use Rattle.std.specs.Prelude.{◌≡◌, ◌⊎◌, IfErr, IfOk, IfSome, string_bytes};
 ghost use Rattle.script_text.specs.Plan.{IsPlan};
-ghost use Rattle.script_text.specs.Script.{IsScript};
+ghost use Rattle.script_text.specs.StepScript.{IsStepScript};
 ghost use Rattle.upsched_ends.specs.declared.fault.Fault.TheVariants.{Memory, Unreadable};
-ghost use Rattle.upsched_ends.specs.Faults.{TellsPlanFault, TellsScriptFault};
+ghost use Rattle.upsched_ends.specs.Faults.{TellsPlanFault, TellsStepFault};
 
 use crate::fault::Fault;
 use grant_machine::Command;
-use script_text::{Script, read_plan, read_script};
+use script_text::{StepScript, read_plan, read_steps};
 use std::alloc::Global;
 use std::io::Read;
 
@@ -40,17 +40,17 @@ pub fn plan_of<'a, R: Read>(
     }
 }
 
-/// The script that a text is.
-pub fn script_of<'a, R: Read>(
+/// The script that a text is, whose deliveries may name their letters.
+pub fn steps_of<'a, R: Read>(
     alloc: Global,
     script: &mut R,
     path: &'a str,
-) -> Result<Script, Fault<'a>>
-    ensures script { IfOk result (λ read. IfSome (R.remaining script.old) (λ bytes. IsScript bytes read.members read.modems.items read.events.items)) }
-    ensures fault { IfErr result (λ fault. (fault ≡ Memory) ⊎ (fault ≡ Unreadable path.entry) ⊎ TellsScriptFault (R.remaining script.old) fault) }
+) -> Result<StepScript, Fault<'a>>
+    ensures script { IfOk result (λ read. IfSome (R.remaining script.old) (λ bytes. IsStepScript bytes read.members read.modems.items read.steps.items)) }
+    ensures fault { IfErr result (λ fault. (fault ≡ Memory) ⊎ (fault ≡ Unreadable path.entry) ⊎ TellsStepFault (R.remaining script.old) fault) }
 {
     let text = text_of(alloc, script, path)?;
-    match read_script(alloc, text.as_str()) {
+    match read_steps(alloc, text.as_str()) {
         Ok(script) => Ok(script),
         Err(fault) => Err(Fault::Script(fault)),
     }

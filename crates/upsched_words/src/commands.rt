@@ -32,6 +32,10 @@ fn given_so<'a>(argument: Arg<'a>, id: &'a str, given: Given) -> Result<Arg<'a>,
         Given::Flag => argument.long(id).action(ArgAction::SetTrue),
         Given::Value(name) => argument.long(id).value_name(name),
         Given::NeededValue(name) => argument.long(id).value_name(name).required(true),
+        Given::MaybeNumber(name, numbers) => argument
+            .long(id)
+            .value_name(name)
+            .value_parser(parser_of(numbers)),
         Given::Number(name, numbers, not_given) => argument
             .long(id)
             .value_name(name)

@@ -1,7 +1,7 @@
 //! The commands of the program, and the words that each takes.
 
 use Beside::{Any, NoneOf, Only};
-use Given::{Flag, NeededValue, Number, Place, PlaceWithout, Places, Value};
+use Given::{Flag, MaybeNumber, NeededValue, Number, Place, PlaceWithout, Places, Value};
 use Numbers::{Counts, Percents, Seeds, Turns};
 
 /// The numbers that an option may have.
@@ -32,7 +32,9 @@ pub(crate) enum Given {
     Value(&'static str),
     /// The same, and it has to be there.
     NeededValue(&'static str),
-    /// By its name and one of these numbers, which the help calls so. It is the last one where the words don't say.
+    /// By its name and one of these numbers, which the help calls so.
+    MaybeNumber(&'static str, Numbers),
+    /// The same. It is the last one where the words don't say.
     Number(&'static str, Numbers, &'static str),
 }
 
@@ -158,12 +160,24 @@ const RUN: Usage = Usage {
             "Also prints for each event its letters, by the numbers that deliver takes, and what its node does from then on",
         ),
         Argument(
+            "names",
+            Flag,
+            Only("trace"),
+            "Also prints behind each value of a letter the command that it spells, as JSON has it by itself",
+        ),
+        Argument(
             "verbose",
             Flag,
             Any,
             "Also logs each fault and each crash of a node on standard error; what is printed stays the same",
         ),
         Argument("json", Flag, NoneOf(&["verbose"]), JSON_HELP),
+        Argument(
+            "plain",
+            Flag,
+            NoneOf(&["store", "trace", "verbose", "json"]),
+            "Prints the script instead, with the number of each letter that it names",
+        ),
     ],
     group: None,
 };
@@ -300,6 +314,18 @@ const DRAW: Usage = Usage {
             Only("MAPS"),
             "Prints these MAPs for a terminal of 100 columns",
         ),
+        Argument(
+            "from",
+            MaybeNumber("A", Seeds),
+            NoneOf(&["plan", "maps"]),
+            "Draws a script from event A on; what was sent before comes from the upper edge",
+        ),
+        Argument(
+            "to",
+            MaybeNumber("B", Seeds),
+            NoneOf(&["plan", "maps"]),
+            "Draws a script up to event B",
+        ),
     ],
     group: Some(Group {
         name: "MAPS",
@@ -396,6 +422,23 @@ const NODE: Usage = Usage {
     group: None,
 };
 
+const HOST: Usage = Usage {
+    name: "host",
+    about: "Is one member of a log that goes on, which reads lines on standard input and replies to each",
+    example: Some("Example: echo release 0 | upsched host 0 --members 3 --places 5"),
+    arguments: &[
+        Argument("K", Place, Any, "The host's number, from 0 on and below M"),
+        MEMBERS,
+        Argument(
+            "places",
+            Value("P"),
+            Any,
+            "How many places of each epoch count, the same for all hosts, 1 to 999000; 65536 where it isn't given",
+        ),
+    ],
+    group: None,
+};
+
 const AUDIT: Usage = Usage {
     name: "audit",
     about: "Tells whether journals are the lines of nodes that kept the rules",
@@ -410,11 +453,18 @@ const AUDIT: Usage = Usage {
             Any,
             "The journal of each node, that of node 0 first",
         ),
+        Argument(
+            "counts",
+            Flag,
+            Any,
+            "Prints how many lives and lines each journal holds, too",
+        ),
     ],
     group: None,
 };
 
 /// The commands, in the order in which the help tells of them.
-pub(crate) const USAGES: [Usage; 13] = [
-    MAPS, RESUME, RUN, CHECK, CAPTURE, STATS, SCRIPT, DRAW, SHOW, LIVE, SCHEDULER, NODE, AUDIT,
+pub(crate) const USAGES: [Usage; 14] = [
+    MAPS, RESUME, RUN, CHECK, CAPTURE, STATS, SCRIPT, DRAW, SHOW, LIVE, SCHEDULER, NODE, HOST,
+    AUDIT,
 ];

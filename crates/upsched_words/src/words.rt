@@ -13,6 +13,7 @@ use upsched_check::{CaptureWords, CheckWords, Form, StatsWords};
 use upsched_ends::{
     Fault, LiveWords, MapsWords, NodeWords, RunWords, ScriptWords, ShowWords, Status,
 };
+use upsched_host::HostWords;
 use upsched_resume::ResumeWords;
 use upsched_scheduler::ReplyForm;
 
@@ -32,6 +33,8 @@ pub struct AuditWords<'a> {
     pub members: &'a str,
     /// The paths of their journals, that of node 0 first.
     pub journals: Vec<&'a str>,
+    /// Whether it is told how many lives and lines each of them holds.
+    pub counts: bool,
 }
 
 /// What `check` is told of the files of nodes.
@@ -62,6 +65,8 @@ pub struct DrawWords<'a> {
     /// The path of the script or the plan.
     pub path: &'a str,
     pub subject: Subject,
+    /// The number of the first event of a script that is drawn, and that of the last one where it is said.
+    pub events: (usize, Option<usize>),
 }
 
 /// A command of the program.
@@ -79,6 +84,10 @@ pub enum Words<'a> {
     Run(RunWords<'a>),
     /// Runs a script and prints its answers and its letters.
     Trace(RunWords<'a>),
+    /// The same with the command that each value of a letter spells.
+    TraceNamed(RunWords<'a>),
+    /// Prints a script with the numbers of the letters that it names.
+    PlainScript(RunWords<'a>),
     /// Runs a script and prints its answers as JSON.
     RunAsJson(RunWords<'a>),
     /// The same with the letters of each event, and what is seen of its node.
@@ -109,6 +118,8 @@ pub enum Words<'a> {
     Scheduler(ReplyForm),
     /// Is one node over lines, which may keep a journal of them.
     Node(NodeWords<'a>, Option<JournalWords<'a>>),
+    /// Is one member of a log that goes on, over lines.
+    Host(HostWords<'a>),
     /// Prints whether journals are those of nodes that kept the rules.
     Audit(AuditWords<'a>),
 }
@@ -143,7 +154,8 @@ fn show_words<'a>(words: &ArgMatches<'a>) -> Option<Words<'a>> {
     })
 }
 
-/// What `run` is told: to print lines, with a trace or without one, or JSON.
+/// What `run` is told: to print lines, with a trace or without one, or JSON, or the script by numbers. Only a trace has
+/// names: JSON has them by itself.
 fn run_words<'a>(words: &ArgMatches<'a>) -> Option<Words<'a>> {
     let script = words.get_str("SCRIPT")?;
     let verbose = words.get_flag("verbose");
@@ -153,9 +165,13 @@ fn run_words<'a>(words: &ArgMatches<'a>) -> Option<Words<'a>> {
         verbose,
         store,
     };
+    if words.get_flag("plain") {
+        return Some(Words::PlainScript(told));
+    }
     Some(match (words.get_flag("json"), words.get_flag("trace")) {
         (true, true) => Words::TraceAsJson(told),
         (true, false) => Words::RunAsJson(told),
+        (false, true) if words.get_flag("names") => Words::TraceNamed(told),
         (false, true) => Words::Trace(told),
         (false, false) => Words::Run(told),
     })
@@ -198,7 +214,13 @@ fn draw_words<'a>(words: &ArgMatches<'a>) -> Option<Words<'a>> {
         (false, true) => Subject::Maps,
         (false, false) => Subject::Run,
     };
-    Some(Words::Draw(DrawWords { path, subject }))
+    let from = words.get_one::<u64>("from").unwrap_or(0) as usize;
+    let to = words.get_one::<u64>("to").map(|last| last as usize);
+    Some(Words::Draw(DrawWords {
+        path,
+        subject,
+        events: (from, to),
+    }))
 }
 
 /// What `node` is told.
@@ -214,6 +236,18 @@ fn node_words<'a>(words: &ArgMatches<'a>) -> Option<Words<'a>> {
         is_new,
     };
     Some(Words::Node(told, journal_words(words)))
+}
+
+/// What `host` is told.
+fn host_words<'a>(words: &ArgMatches<'a>) -> Option<Words<'a>> {
+    let number = words.get_str("K")?;
+    let members = words.get_str("members")?;
+    let places = words.get_str("places");
+    Some(Words::Host(HostWords {
+        number,
+        members,
+        places,
+    }))
 }
 
 /// What `script` is told.
@@ -247,7 +281,12 @@ fn audit_words<'a>(alloc: Global, words: &ArgMatches<'a>) -> Result<Option<Words
         return Ok(None);
     };
     let journals = Vec::from_slice(alloc, given)?;
-    Ok(Some(Words::Audit(AuditWords { members, journals })))
+    let counts = words.get_flag("counts");
+    Ok(Some(Words::Audit(AuditWords {
+        members,
+        journals,
+        counts,
+    })))
 }
 
 /// What `live` is told.
@@ -297,6 +336,7 @@ fn command_of<'a>(
         "live" => live_words(words),
         "scheduler" => Some(scheduler_words(words)),
         "node" => node_words(words),
+        "host" => host_words(words),
         "audit" => audit_words(alloc, words)?,
         _ => None,
     })
