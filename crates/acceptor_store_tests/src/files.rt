@@ -1,5 +1,6 @@
 //! Files in memory that stop, what a stop leaves of them, and what the records in them hold.
 
+use log_ties::{Tie, tie_of};
 use sqlite::{Alter, Connection, Error, FileStore, Files, Options};
 use sqlite_disk::{Crash, Disk, Fuse, Memory};
 use std::alloc::Global;
@@ -95,12 +96,26 @@ fn bytes_of(left: &Left, is_written: bool) -> &[u8] {
     }
 }
 
+/// Fails where the files look as if one of them had lost something.
+fn tied<D: Disk>(alloc: Global, files: &mut Files<D>) -> Result<(), Fail> {
+    if !files.may_be_used() {
+        return Err(Fail::new("a sync failed"));
+    }
+    match tie_of(alloc, files) {
+        Ok(Tie::Lost(loss)) => Err(Fail::new(format_args!("told as lost: {loss:?}"))),
+        Ok(_) => Ok(()),
+        Err(_) => Err(Fail::new("a read failed")),
+    }
+}
+
 /// What is found of the files: what was written to the log, or synced, and likewise of the
-/// database.
-pub fn found(alloc: Global, bodies: &Bodies, which: (bool, bool)) -> io::Result<Files<Fused>> {
+/// database. No stop leaves files that look as if one had lost something.
+pub fn found(alloc: Global, bodies: &Bodies, which: (bool, bool)) -> Result<Files<Fused>, Fail> {
     let log = bytes_of(&bodies.log, which.0);
     let db = bytes_of(&bodies.db, which.1);
-    stopping(alloc, (log, db), Stopped::Log, u64::MAX)
+    let mut files = stopping(alloc, (log, db), Stopped::Log, u64::MAX)?;
+    tied(alloc, &mut files)?;
+    Ok(files)
 }
 
 /// A connection to the files, or the files again. Each commit copies the log into the database.

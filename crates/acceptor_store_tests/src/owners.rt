@@ -4,11 +4,13 @@ use crate::files::{Fused, Stopped};
 use crate::kinds::{TellsKinds, stops};
 use crate::tables::{Row, open_so};
 use crate::uses::{
-    ReadsContent, RecordsUse, Unopened, Way, answer_in, ballot, bodies_after, content, failed,
-    found_after, used_in,
+    ReadsContent, RecordsUse, Refusal, Unopened, Way, answer_in, ballot, bodies_after, content,
+    fault_after, found_after, refusal_of, used_in,
 };
 use acceptor::Records;
 use acceptor_store::{OpenFault, OwnerFault};
+use acceptor_store_parts::Owner;
+use ballots::{Members, NodeId};
 use sqlite::Files;
 use std::alloc::Global;
 use std::test::Fail;
@@ -28,19 +30,19 @@ const HELD: &str = "16 18 1 17 [65]";
 /// What fresh records hold.
 const EMPTY: &str = "0 0";
 
-const FOREIGN: Option<OwnerFault> = Some(OwnerFault::Open(OpenFault::Foreign));
+const FOREIGN: Option<Refusal> = Some(Refusal::Open(OpenFault::Foreign));
 
-const REFUSED: Option<OwnerFault> = Some(OwnerFault::Open(OpenFault::Refused));
+const REFUSED: Option<Refusal> = Some(Refusal::Open(OpenFault::Refused));
 
 /// A database without tables, one of version 2 and one of version 3, and how each is opened.
 static OPENED: [Row; 12] = [
     (["", "", "", ""], Way::Plain, None),
     (["", "", "", ""], Way::New, None),
-    (["", "", "", ""], Way::Old, Some(OwnerFault::Blank)),
-    (["", "", "", ""], Way::Adopt, Some(OwnerFault::Blank)),
+    (["", "", "", ""], Way::Old, Some(Refusal::Blank)),
+    (["", "", "", ""], Way::Adopt, Some(Refusal::Blank)),
     ([SECOND, "", "", ""], Way::Plain, None),
-    ([SECOND, "", "", ""], Way::New, Some(OwnerFault::Unowned)),
-    ([SECOND, "", "", ""], Way::Old, Some(OwnerFault::Unowned)),
+    ([SECOND, "", "", ""], Way::New, Some(Refusal::Unowned)),
+    ([SECOND, "", "", ""], Way::Old, Some(Refusal::Unowned)),
     ([SECOND, "", "", ""], Way::Adopt, None),
     ([SECOND, THIRD, "", ""], Way::Plain, FOREIGN),
     ([SECOND, THIRD, "", ""], Way::New, None),
@@ -54,22 +56,7 @@ fn each_version_in_each_way(rt: HostRuntime) -> Result<(), Fail> {
 }
 
 /// Changes of a database of version 3, and how it is opened then.
-static CHANGED: [Row; 16] = [
-    (
-        [SECOND, THIRD, "UPDATE fact SET bytes = x'0003'", ""],
-        Way::Old,
-        Some(OwnerFault::OtherNode),
-    ),
-    (
-        [SECOND, THIRD, "UPDATE fact SET bytes = x'0005'", ""],
-        Way::Old,
-        Some(OwnerFault::OtherNode),
-    ),
-    (
-        [SECOND, THIRD, "UPDATE fact SET bytes = x'0105'", ""],
-        Way::Old,
-        Some(OwnerFault::OtherMembers),
-    ),
+static CHANGED: [Row; 13] = [
     (
         [SECOND, THIRD, "UPDATE fact SET bytes = x'0104'", ""],
         Way::Old,
@@ -125,7 +112,7 @@ static CHANGED: [Row; 16] = [
     (
         [SECOND, THIRD, "DROP TABLE fact", ""],
         Way::Old,
-        Some(OwnerFault::Unowned),
+        Some(Refusal::Unowned),
     ),
     (
         [SECOND, THIRD, "CREATE INDEX by_bytes ON fact (bytes)", ""],
@@ -140,11 +127,49 @@ fn what_an_owner_refuses(rt: HostRuntime) -> Result<(), Fail> {
     open_so(&rt, rt.alloc(), &CHANGED)
 }
 
+/// Changes of a database of node 1 of three, the owner that it has then, and whether node 1 of three is told of other
+/// members.
+static OTHERS: [(&str, u8, u8, bool); 3] = [
+    ("UPDATE fact SET bytes = x'0003'", 0, 3, false),
+    ("UPDATE fact SET bytes = x'0005'", 0, 5, false),
+    ("UPDATE fact SET bytes = x'0105'", 1, 5, true),
+];
+
+fn other(node: u8, members: u8, is_same_node: bool) -> Result<OwnerFault, Fail> {
+    let node = NodeId::new(node).ok_or("a node")?;
+    let members = Members::of(members).ok_or("members")?;
+    let owner = Owner { node, members };
+    Ok(if is_same_node {
+        OwnerFault::OtherMembers(owner)
+    } else {
+        OwnerFault::OtherNode(owner)
+    })
+}
+
+#[test]
+fn another_owner_is_named(rt: HostRuntime) -> Result<(), Fail> {
+    for (text, node, members, is_same_node) in OTHERS {
+        let found = fault_after(rt.alloc(), &[SECOND, THIRD, text], Way::Old)?;
+        assert!(rt;
+            found == Some(other(node, members, is_same_node)?),
+            "{text}: {found:?}"
+        );
+    }
+    Ok(())
+}
+
+fn refusal_in(unopened: Unopened) -> Option<Refusal> {
+    match unopened {
+        Unopened::Unlinked => None,
+        Unopened::Fault(fault) => Some(refusal_of(fault)),
+    }
+}
+
 /// Tells tables that have an owner, and what they hold, from what was there before, by how that is refused.
 #[derive(Drop)]
 struct TellsOwned<'a> {
     held: &'a str,
-    before: OwnerFault,
+    before: Refusal,
 }
 
 fn is_held(content: &str, held: &str) -> Result<bool, Fail> {
@@ -155,35 +180,38 @@ fn is_held(content: &str, held: &str) -> Result<bool, Fail> {
     }
 }
 
+impl<'a> TellsOwned<'a> {
+    /// False where what was there before is refused so; else it fails.
+    fn is_before(&self, unopened: Unopened) -> Result<bool, Fail> {
+        let found = refusal_in(unopened);
+        if found == Some(self.before) {
+            return Ok(false);
+        }
+        Err(Fail::new(format_args!("it doesn't open: {found:?}")))
+    }
+}
+
 impl<'a> TellsKinds for TellsOwned<'a> {
     fn is_newer(&self, alloc: Global, files: Files<Fused>) -> Result<bool, Fail> {
         let (content, _) = used_in(alloc, files, Way::Old, ReadsContent)?;
         match content {
             Ok(content) => is_held(content.as_str(), self.held),
-            Err(Unopened::Fault(fault)) if fault == self.before => Ok(false),
-            Err(unopened) => Err(failed(unopened)),
+            Err(unopened) => self.is_before(unopened),
         }
     }
 }
 
 /// The text that makes a database, how it is refused before, in which way it is opened, which of its files stops, what
 /// it holds, and how many stops leave either.
-static STOPS: [(&str, OwnerFault, Way, Stopped, &str, u64); 3] = [
+static STOPS: [(&str, Refusal, Way, Stopped, &str, u64); 3] = [
     // tables that are made for an owner are there whole, or not at all
-    ("", OwnerFault::Blank, Way::New, Stopped::Log, EMPTY, 1),
+    ("", Refusal::Blank, Way::New, Stopped::Log, EMPTY, 1),
     // tables of version 2 are adopted whole, or not at all, and hold the same
-    (
-        SECOND,
-        OwnerFault::Unowned,
-        Way::Adopt,
-        Stopped::Log,
-        HELD,
-        1,
-    ),
+    (SECOND, Refusal::Unowned, Way::Adopt, Stopped::Log, HELD, 1),
     // the same where the database stops
     (
         SECOND,
-        OwnerFault::Unowned,
+        Refusal::Unowned,
         Way::Adopt,
         Stopped::Database,
         HELD,
@@ -229,7 +257,7 @@ fn keep_their_owner(alloc: Global) -> Result<bool, Fail> {
     is_held(text.as_str(), WRITTEN)?;
     let teller = TellsOwned {
         held: WRITTEN,
-        before: OwnerFault::Unowned,
+        before: Refusal::Unowned,
     };
     teller.is_newer(alloc, files)
 }

@@ -1,5 +1,5 @@
-use crate::uses::{Way, fault_after};
-use acceptor_store::{OpenFault, OwnerFault};
+use crate::uses::{Refusal, Way, fault_after, refusal_of};
+use acceptor_store::OpenFault;
 use std::alloc::Global;
 use std::process::Abort;
 use std::test::Fail;
@@ -14,12 +14,12 @@ const LEARNED: &str =
 
 const SECOND: &str = "INSERT INTO ballot (id, number) VALUES (2, 2)";
 
-const FOREIGN: Option<OwnerFault> = Some(OwnerFault::Open(OpenFault::Foreign));
+const FOREIGN: Option<Refusal> = Some(Refusal::Open(OpenFault::Foreign));
 
-const REFUSED: Option<OwnerFault> = Some(OwnerFault::Open(OpenFault::Refused));
+const REFUSED: Option<Refusal> = Some(Refusal::Open(OpenFault::Refused));
 
 /// The texts that make a database, and how it is opened in a way.
-pub type Row = ([&'static str; 4], Way, Option<OwnerFault>);
+pub type Row = ([&'static str; 4], Way, Option<Refusal>);
 
 static OPENED: [Row; 29] = [
     // tables of records open
@@ -242,8 +242,12 @@ static OPENED: [Row; 29] = [
 
 /// Each row opens as it says.
 pub fn open_so(rt: &impl Abort, alloc: Global, rows: &[Row]) -> Result<(), Fail> {
-    for (texts, way, fault) in rows {
-        assert_eq!(rt; fault_after(alloc, texts, *way)?, *fault, "{texts:?}");
+    for (texts, way, wanted) in rows {
+        let found = match fault_after(alloc, texts, *way)? {
+            Some(fault) => Some(refusal_of(fault)),
+            None => None,
+        };
+        assert_eq!(rt; found, *wanted, "{texts:?}");
     }
     Ok(())
 }

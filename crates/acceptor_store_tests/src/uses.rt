@@ -37,6 +37,24 @@ pub enum Way {
     Adopt,
 }
 
+/// Why records aren't opened over a connection, as tables tell it. Another owner is told in a table of its own.
+#[derive(Clone, Copy, Debug, PartialEq, Eq)]
+pub enum Refusal {
+    Open(OpenFault),
+    Blank,
+    Unowned,
+    Other,
+}
+
+pub fn refusal_of(fault: OwnerFault) -> Refusal {
+    match fault {
+        OwnerFault::Open(fault) => Refusal::Open(fault),
+        OwnerFault::Blank => Refusal::Blank,
+        OwnerFault::Unowned => Refusal::Unowned,
+        OwnerFault::OtherNode(_) | OwnerFault::OtherMembers(_) => Refusal::Other,
+    }
+}
+
 /// Why records aren't open.
 #[derive(Clone, Copy)]
 pub enum Unopened {

@@ -3,7 +3,8 @@
 ghost use Rattle.std.specs.Prelude.{◌≡◌, ℕ, IfSome, IfNone, Some, Err, true, false, ◌||◌, if◌then◌else◌};
 ghost use Rattle.acceptor.specs.Content.{no_content};
 ghost use Rattle.acceptor.specs.Faults.{BreaksBy, BreaksByReopen, CountsFaults};
-ghost use Rattle.acceptor.specs.declared.records.RecordsFault.TheVariants.{Refused as FaultRefused, Broken as FaultBroken};
+ghost use Rattle.acceptor.specs.declared.records.RecordsFault.TheVariants.{Refused as FaultRefused};
+ghost use Rattle.acceptor.specs.declared.records.RecordsFault.TheVariants.{Broken as FaultBroken};
 ghost use Rattle.faulty_records.specs.State.{IsChosen, breaks, next};
 ghost use Rattle.faulty_records.specs.declared.faulty.Failure.TheVariants.{BrokenUnwritten};
 

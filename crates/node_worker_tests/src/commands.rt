@@ -57,7 +57,7 @@ fn read_as(alloc: Global, words: &[&str]) -> Result<String, Fail> {
     }
 }
 
-static RUN_WORDS: [(&[&str], &str); 18] = [
+static RUN_WORDS: [(&[&str], &str); 20] = [
     (
         &["maps", "a plan.toml"],
         "Maps(MapsWords { plan: \"a plan.toml\" })",
@@ -113,6 +113,11 @@ static RUN_WORDS: [(&[&str], &str); 18] = [
         "Trace(RunWords { script: \"script.toml\", verbose: false, store: None })",
     ),
     (
+        &["run", "script.toml", "--names", "--trace"],
+        "TraceNamed(RunWords { script: \"script.toml\", verbose: false, store: None })",
+    ),
+    (&["run", "script.toml", "--names"], "NotUnderstood"),
+    (
         &["run", "--trace", "script.toml", "--verbose", "--store=dir"],
         "Trace(RunWords { script: \"script.toml\", verbose: true, store: Some(\"dir\") })",
     ),
@@ -126,7 +131,7 @@ static RUN_WORDS: [(&[&str], &str); 18] = [
     ),
 ];
 
-static NODE_WORDS: [(&[&str], &str); 14] = [
+static NODE_WORDS: [(&[&str], &str); 16] = [
     (
         &["live", "plan.toml"],
         "Live(LiveWords { plan: \"plan.toml\", turns: 2000, verbose: false })",
@@ -180,12 +185,24 @@ static NODE_WORDS: [(&[&str], &str); 14] = [
         &["node", "0", "--members", "3", "--journal-sync"],
         "NotUnderstood",
     ),
+    (
+        &["host", "0", "--members", "3"],
+        "Host(HostWords { number: \"0\", members: \"3\", places: None })",
+    ),
+    (
+        &["host", "--places=5", "4", "--members", "5"],
+        "Host(HostWords { number: \"4\", members: \"5\", places: Some(\"5\") })",
+    ),
 ];
 
-static CHECK_WORDS: [(&[&str], &str); 20] = [
+static CHECK_WORDS: [(&[&str], &str); 21] = [
     (
         &["audit", "--members", "3", "a", "b c"],
-        "Audit(AuditWords { members: \"3\", journals: [\"a\", \"b c\"] })",
+        "Audit(AuditWords { members: \"3\", journals: [\"a\", \"b c\"], counts: false })",
+    ),
+    (
+        &["audit", "--members", "3", "--counts", "a"],
+        "Audit(AuditWords { members: \"3\", journals: [\"a\"], counts: true })",
     ),
     (&["audit", "--members", "3"], "NotUnderstood"),
     (&["audit", "a"], "NotUnderstood"),
@@ -256,7 +273,7 @@ static CHECK_WORDS: [(&[&str], &str); 20] = [
     ),
 ];
 
-static OTHER_WORDS: [(&[&str], &str); 18] = [
+static OTHER_WORDS: [(&[&str], &str); 22] = [
     (&[], "NotUnderstood"),
     (&["maps"], "NotUnderstood"),
     (&["show"], "NotUnderstood"),
@@ -264,6 +281,18 @@ static OTHER_WORDS: [(&[&str], &str); 18] = [
     (&["maps", "one", "two"], "NotUnderstood"),
     (&["maps", "plan.toml", "--verbose"], "NotUnderstood"),
     (&["run", "script.toml", "--store"], "NotUnderstood"),
+    (
+        &["draw", "script.toml"],
+        "Draw(DrawWords { path: \"script.toml\", subject: Run, events: (0, None) })",
+    ),
+    (
+        &["draw", "script.toml", "--from", "5", "--to", "9"],
+        "Draw(DrawWords { path: \"script.toml\", subject: Run, events: (5, Some(9)) })",
+    ),
+    (
+        &["draw", "script.toml", "--maps", "--to", "9"],
+        "NotUnderstood",
+    ),
     (&["live"], "NotUnderstood"),
     (&["live", "plan.toml", "--turns"], "NotUnderstood"),
     (&["live", "plan.toml", "--turns", "many"], "NotUnderstood"),
@@ -274,6 +303,7 @@ static OTHER_WORDS: [(&[&str], &str); 18] = [
     ),
     (&["node", "0"], "NotUnderstood"),
     (&["node", "--members", "3"], "NotUnderstood"),
+    (&["host", "0", "--places", "5"], "NotUnderstood"),
     (&["--help"], "Done"),
     (&["node", "--help"], "Done"),
     (&["run", "--help"], "Done"),

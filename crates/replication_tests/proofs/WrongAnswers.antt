@@ -1,6 +1,7 @@
 -- Why the definitions exclude these answers.
 use Rattle.std.proofs.Common.{inl, inr, arith}
-use Rattle.replication_tests.specs.WrongAnswers.{NoVoteBelow, NoPromiseUpTo, HigherIsThePromise, AnswersAreWritten, NextBallotIsAbove}
+use Rattle.replication_tests.specs.WrongAnswers.{NoVoteBelow, NoPromiseUpTo, HigherIsThePromise, AnswersAreWritten}
+use Rattle.replication_tests.specs.WrongAnswers.{NextBallotIsAbove}
 
 pub no_vote_below : NoVoteBelow
 no_vote_below c b p v told write below h =

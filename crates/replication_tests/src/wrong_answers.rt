@@ -1,6 +1,7 @@
 //! Answers that the definitions exclude, whatever body would give them.
 
-ghost use Rattle.replication_tests.specs.WrongAnswers.{AnswersAreWritten, HigherIsThePromise, NextBallotIsAbove, NoPromiseUpTo, NoVoteBelow};
+ghost use Rattle.replication_tests.specs.WrongAnswers.{AnswersAreWritten, HigherIsThePromise, NextBallotIsAbove};
+ghost use Rattle.replication_tests.specs.WrongAnswers.{NoPromiseUpTo, NoVoteBelow};
 
 /// An acceptor neither votes below its promise, nor promises what isn't above it, nor tells another ballot than the
 /// promised one; a promise and a new vote are written.

@@ -1,4 +1,5 @@
-use Rattle.replication_tests.proofs.WrongAnswers.{no_vote_below, no_promise_up_to, higher_is_the_promise, answers_are_written}
+use Rattle.replication_tests.proofs.WrongAnswers.{no_vote_below, no_promise_up_to, higher_is_the_promise}
+use Rattle.replication_tests.proofs.WrongAnswers.{answers_are_written}
 use Rattle.replication_tests.proofs.wrong_answers.of_acceptors.Goals as goal
 
 pub returns-clause-below : goal.returns-clause-below
