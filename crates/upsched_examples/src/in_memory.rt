@@ -7,7 +7,7 @@ use std::alloc::{AllocError, Global};
 use std::io::{Read, Write};
 use std::{fs, io};
 use upsched_ends::{Fault, Status};
-use upsched_store::{Telling, print_over, script_of};
+use upsched_store::{Telling, Trace, print_over, steps_of};
 
 /// An empty database and its log in memory, so many times.
 fn pairs_in_memory(alloc: Global, count: u8) -> Result<Vec<Pair<Memory>>, AllocError> {
@@ -28,15 +28,15 @@ fn print_in_memory<'a, F: Read, O: Write>(
     path: &'a str,
     output: &mut O,
 ) -> Result<(), Fault<'a>> {
-    let script = script_of(rt.alloc(), script, path)?;
+    let script = steps_of(rt.alloc(), script, path)?;
     let Ok(pairs) = pairs_in_memory(rt.alloc(), script.members.count()) else {
         return Err(Fault::Memory);
     };
     let telling = Telling {
         verbose: false,
-        trace: false,
+        trace: Trace::Off,
     };
-    print_over(rt, pairs, &script, telling, output)
+    print_over(rt, pairs, script, telling, output)
 }
 
 /// What the script of a path does to such nodes.

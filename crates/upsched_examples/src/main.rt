@@ -47,7 +47,7 @@ struct Folder {
     ending: &'static str,
 }
 
-const FOLDERS: [Folder; 12] = [
+const FOLDERS: [Folder; 13] = [
     Folder {
         path: "plans",
         kind: Kind::Plan,
@@ -55,6 +55,11 @@ const FOLDERS: [Folder; 12] = [
     },
     Folder {
         path: "scripts",
+        kind: Kind::Script,
+        ending: ".toml",
+    },
+    Folder {
+        path: "exercises",
         kind: Kind::Script,
         ending: ".toml",
     },
@@ -130,12 +135,12 @@ const SURVEYED: [(&str, Status, &str); 4] = [
     (
         STRANGE,
         Status::Faulted,
-        "strange.store/node-1.db: foreign\n",
+        "strange.store/node-1.db: log missing: strange.store/node-1.db-wal isn't there\n",
     ),
     (
         VOTED,
         Status::Faulted,
-        "voted.store/node-0.db: used, of nobody\n",
+        "voted.store/node-0.db: log missing: voted.store/node-0.db-wal isn't there\n",
     ),
     (
         "fresh.store",
