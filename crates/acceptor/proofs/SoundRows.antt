@@ -1,5 +1,6 @@
 -- Rows at places of the log, by ascending place.
-use Rattle.std.proofs.Common.{◌≡◌, ◌∙◌, Some, refl, ap, inl, inr, ℕ, ◌+◌, ◌≤◌, nat_le, Bool, true, false, List, [], ◌∷◌, sym, subst, cond, arith}
+use Rattle.std.proofs.Common.{◌≡◌, ◌∙◌, Some, refl, ap, inl, inr, ℕ, ◌+◌, ◌≤◌, nat_le, Bool, true, false, List, [], ◌∷◌}
+use Rattle.std.proofs.Common.{sym, subst, cond, arith}
 use Rattle.std.specs.List.{AllByRecursion}
 use Rattle.std.proofs.lemmas.Bool.{le-leb}
 use Rattle.ballots.specs.Limits.{IsPlace, IsValue, most_places}

@@ -1,6 +1,7 @@
 //! Promises and votes: each is written before it is answered (Lamport, Paxos Made Simple).
 
-ghost use Rattle.std.specs.Prelude.{◌≡◌, ◌<◌, ◌≤◌, ◌⊎◌, max, IsTrue, Option, Some, IfSome, IfNone, IfOk, IfErr, OnOk, OnErr};
+ghost use Rattle.std.specs.Prelude.{◌≡◌, ◌<◌, ◌≤◌, ◌⊎◌, max, IsTrue, Option, Some, IfSome, IfNone, IfOk, IfErr, OnOk};
+ghost use Rattle.std.specs.Prelude.{OnErr};
 ghost use Rattle.ballots.specs.Ballots.{number_of};
 ghost use Rattle.acceptor.specs.Answers.{Prepares, Accepts, IsNewVote, IsOfBallot, MayHavePromised, MayHaveVoted};
 ghost use Rattle.acceptor.specs.Content.{Content, Write, promised, after_write};

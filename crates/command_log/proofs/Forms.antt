@@ -1,5 +1,6 @@
 -- Bytes that have the form of a command spell it, and other bytes spell none.
-use Rattle.std.proofs.Common.{◌≡◌, ℕ, ◌<◌, ◌==◌, Bool, true, false, cond, List, [], ◌∷◌, ◌++◌, length, drop, Option, Some, None, refl, sym, ap, ◌∙◌, arith}
+use Rattle.std.proofs.Common.{◌≡◌, ℕ, ◌<◌, ◌==◌, Bool, true, false, cond, List, [], ◌∷◌, ◌++◌, length, drop, Option}
+use Rattle.std.proofs.Common.{Some, None, refl, sym, ap, ◌∙◌, arith}
 use Rattle.std.specs.Option.{IfSome, MatchOption, option_map}
 use Rattle.std.specs.Int.{w16, w32, w64, to_be_bytes}
 use Rattle.std.proofs.lemmas.Bool.{eqb-true, ne_eqb, and_parts}
@@ -11,10 +12,13 @@ use Rattle.flow_state.specs.declared.flow.FlowKind.TheVariants.{BestEffort, Ugs,
 use Rattle.flow_state.specs.Limits.{last_time}
 use Rattle.grant_machine.specs.declared.command.Command.TheVariants as commands
 use Rattle.grant_machine.specs.Fits.{FitsKind}
-use Rattle.command_log.specs.Spelling.{phy_byte, changed_phy, flow_spelling, sized_spelling, kind_spelling, Spells, SpellsNone, is_plain, cut_byte, cut_settings_spelling, cut_spelling}
-use Rattle.command_log.specs.Reading.{AreBytes, byte, number, is_form, channel_in, settings_in, change_in, sized_in, kind_in, flow_in, flow_command_in, leased_flow_in, command_in, cut_in, set_cut_in}
+use Rattle.command_log.specs.Spelling.{phy_byte, changed_phy, flow_spelling, sized_spelling, kind_spelling, Spells}
+use Rattle.command_log.specs.Spelling.{SpellsNone, is_plain, cut_byte, cut_settings_spelling, cut_spelling}
+use Rattle.command_log.specs.Reading.{AreBytes, byte, number, is_form, channel_in, settings_in, change_in, sized_in}
+use Rattle.command_log.specs.Reading.{kind_in, flow_in, flow_command_in, leased_flow_in, command_in, cut_in, set_cut_in}
 use Rattle.command_log.proofs.Spelled.{read_back}
-use Rattle.command_log.proofs.Fields.{are_drop, number_fits_2, number_fits_4, number_fits_8, field_1, field_2, field_4, field_8, at_end}
+use Rattle.command_log.proofs.Fields.{are_drop, number_fits_2, number_fits_4, number_fits_8, field_1, field_2, field_4}
+use Rattle.command_log.proofs.Fields.{field_8, at_end}
 
 module _ (bytes : List ℕ) (are : AreBytes bytes) where
   -- the first byte, which is known, and the rest

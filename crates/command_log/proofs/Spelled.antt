@@ -1,5 +1,6 @@
 -- What a command's bytes spell is that command.
-use Rattle.std.proofs.Common.{◌≡◌, ℕ, ◌<◌, ◌^◌, ◌==◌, Bool, true, false, cond, List, [], ◌∷◌, ◌++◌, Option, Some, None, refl, sym, ap, ◌∙◌}
+use Rattle.std.proofs.Common.{◌≡◌, ℕ, ◌<◌, ◌^◌, ◌==◌, Bool, true, false, cond, List, [], ◌∷◌, ◌++◌, Option, Some, None}
+use Rattle.std.proofs.Common.{refl, sym, ap, ◌∙◌}
 use Rattle.std.specs.Option.{option_map}
 use Rattle.std.specs.Int.{w16, w64, to_be_bytes}
 use Rattle.std.proofs.lemmas.Bool.{eqb-true, and_parts}
@@ -14,7 +15,9 @@ use Rattle.flow_state.specs.Limits.{last_time}
 use Rattle.grant_machine.specs.declared.command.Command.{Command}
 use Rattle.grant_machine.specs.declared.command.Command.TheVariants as commands
 use Rattle.grant_machine.specs.Fits.{FitsChannel, FitsSettings, FitsKind, FitsCommand}
-use Rattle.command_log.specs.Spelling.{phy_byte, changed_phy, channel_spelling, settings_spelling, flow_spelling, sized_spelling, kind_spelling, spelling, is_plain, cut_byte, cut_settings_spelling, cut_spelling}
+use Rattle.command_log.specs.Spelling.{phy_byte, changed_phy, channel_spelling, settings_spelling, flow_spelling}
+use Rattle.command_log.specs.Spelling.{sized_spelling, kind_spelling, spelling, is_plain, cut_byte}
+use Rattle.command_log.specs.Spelling.{cut_settings_spelling, cut_spelling}
 use Rattle.command_log.specs.Reading.{channel_in, settings_in, sized_in, kind_in, flow_in, flow_command_in, command_in}
 
 -- a channel's fields are read as they were spelled, whatever byte stands before them

@@ -1,6 +1,7 @@
 -- Which command bytes stand for: by the first byte and the length, for a flow by its kind's byte too, and for a change
 -- by that of its PHY.
-use Rattle.std.specs.Prelude.{ℕ, ◌<◌, ◌^◌, ◌==◌, ◌&&◌, Bool, if◌then◌else◌, List, length, drop, Option, Some, None, slice_index, unwrap_or}
+use Rattle.std.specs.Prelude.{ℕ, ◌<◌, ◌^◌, ◌==◌, ◌&&◌, Bool, if◌then◌else◌, List, length, drop, Option, Some, None}
+use Rattle.std.specs.Prelude.{slice_index, unwrap_or}
 use Rattle.std.specs.Option.{option_map}
 use Rattle.std.specs.Int.{Width, w16, w32, w64, from_be_bytes}
 use Rattle.flow_state.specs.declared.channel.Channel.{Channel}

@@ -2,7 +2,8 @@ ghost use Rattle.std.specs.Prelude.{◌≡◌, ◌+◌, ◌≤◌, IsTrue, IsFal
 ghost use Rattle.std.specs.Int.{w16, w32, w64};
 ghost use Rattle.grant_machine.specs.declared.command.Command.TheVariants as commands;
 ghost use Rattle.command_log.specs.Spelling.{Spells, SpellsNone};
-ghost use Rattle.command_log.specs.Reading.{change_in, channel_in, command_in, command_of, flow_command_in, kind_in, leased_flow_in, number, settings_in, cut_in, set_cut_in};
+ghost use Rattle.command_log.specs.Reading.{change_in, channel_in, command_in, command_of, flow_command_in, kind_in};
+ghost use Rattle.command_log.specs.Reading.{leased_flow_in, number, settings_in, cut_in, set_cut_in};
 
 use crate::writing::is_plain;
 use byteorder::{BigEndian, ByteOrder};

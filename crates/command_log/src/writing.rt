@@ -3,7 +3,8 @@ ghost use Rattle.std.specs.Int.{w32, w64, to_be_bytes};
 ghost use Rattle.grant_machine.specs.declared.command.Command.TheVariants as commands;
 ghost use Rattle.grant_machine.specs.Steps.{cut_command};
 ghost use Rattle.grant_machine.specs.Fits.{FitsCommand};
-ghost use Rattle.command_log.specs.Spelling.{phy_byte, changed_phy, channel_spelling, flow_spelling, kind_byte, kind_fields, kind_spelling, sized_spelling, spelling, cut_byte, is_plain};
+ghost use Rattle.command_log.specs.Spelling.{phy_byte, changed_phy, channel_spelling, flow_spelling, kind_byte};
+ghost use Rattle.command_log.specs.Spelling.{kind_fields, kind_spelling, sized_spelling, spelling, cut_byte, is_plain};
 
 use flow_state::{Channel, ChannelSettings, FlowKind, LAST_TIME, Phy};
 use grant_machine::{Command, CutSettings};

@@ -1,5 +1,6 @@
 -- The cases of a flow that is added.
-use Rattle.std.proofs.Common.{◌≡◌, ℕ, Bool, true, cond, not, ◌&&◌, Option, Some, None, sym, ap, ◌∙◌, is_some, is_none, unwrap_or}
+use Rattle.std.proofs.Common.{◌≡◌, ℕ, Bool, true, cond, not, ◌&&◌, Option, Some, None, sym, ap, ◌∙◌, is_some, is_none}
+use Rattle.std.proofs.Common.{unwrap_or}
 use Rattle.flow_state.specs.declared.flow.FlowKind.{FlowKind}
 use Rattle.flow_state.specs.declared.refusal.Refusal.{Refusal}
 use Rattle.flow_state.specs.declared.refusal.Refusal.TheVariants.{SidsSpent, BadValue}

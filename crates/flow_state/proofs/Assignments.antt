@@ -1,12 +1,15 @@
 -- Leases of SIDs, and the one that a flow that isn't refused is given.
-use Rattle.std.proofs.Common.{◌≡◌, ◌⊎◌, ℕ, ◌<◌, ◌≤◌, Bool, true, false, cond, not, ◌&&◌, List, [], ◌∷◌, ◌++◌, filter, Option, Some, None, refl, sym, ap, ◌∙◌, arith, eqb, ltb, inl, inr, is_some, is_none, slice_get}
+use Rattle.std.proofs.Common.{◌≡◌, ◌⊎◌, ℕ, ◌<◌, ◌≤◌, Bool, true, false, cond, not, ◌&&◌, List, [], ◌∷◌, ◌++◌, filter}
+use Rattle.std.proofs.Common.{Option, Some, None, refl, sym, ap, ◌∙◌, arith, eqb, ltb, inl, inr, is_some, is_none}
+use Rattle.std.proofs.Common.{slice_get}
 use Rattle.std.specs.List.{find}
 use Rattle.std.specs.Prelude.{unwrap_or}
 use Rattle.std.proofs.lemmas.Bool.{eqb-true, leb-true, and_parts, not-true}
 use Rattle.flow_state.specs.declared.flow.FlowKind.{FlowKind}
 use Rattle.flow_state.specs.declared.refusal.Refusal.TheVariants.{BadValue, SidsSpent}
 use Rattle.flow_state.specs.Limits.{is_good_kind, last_time}
-use Rattle.flow_state.specs.Rows.{Table, Lease, is_over, is_lease_of, lease_of, is_of_sid, is_given, is_leased, unicast_sids, free_sid, first_of, put_lease}
+use Rattle.flow_state.specs.Rows.{Table, Lease, is_over, is_lease_of, lease_of, is_of_sid, is_given, is_leased}
+use Rattle.flow_state.specs.Rows.{unicast_sids, free_sid, first_of, put_lease}
 use Rattle.flow_state.specs.Refusals.{is_good_last, table_flow_refusal}
 use Rattle.flow_state.proofs.Members.{Has, has_any, none_has, found_has, has_between}
 use Rattle.flow_state.proofs.Filters.{filter_append, filter_between, filter_none, find_is}

@@ -1,5 +1,6 @@
 -- Leases in blocks: the first one that is over, and the bounds with one more lease.
-use Rattle.std.proofs.Common.{◌≡◌, ◌≢◌, ℕ, ◌+◌, ◌*◌, ◌<◌, ◌≤◌, true, false, List, length, slice_get, Some, None, refl, sym, ap, subst, ◌∙◌, ◌/◌, eqb, ltb, arith}
+use Rattle.std.proofs.Common.{◌≡◌, ◌≢◌, ℕ, ◌+◌, ◌*◌, ◌<◌, ◌≤◌, true, false, List, length, slice_get, Some, None, refl}
+use Rattle.std.proofs.Common.{sym, ap, subst, ◌∙◌, ◌/◌, eqb, ltb, arith}
 use Rattle.std.specs.List.{find}
 use Rattle.std.proofs.lemmas.Bool.{eqb-true}
 use Rattle.std.proofs.lemmas.Option.{slice_get_within, same_Some}

@@ -1,5 +1,7 @@
 -- Flows that stand one below their SIDs.
-use Rattle.std.proofs.Common.{◌≡◌, ℕ, zero, suc, ◌+◌, ◌-◌, ◌<◌, ◌≤◌, true, false, cond, not, leb, ltb, List, [], ◌∷◌, ◌++◌, filter, length, take, drop, add-one, slice_get, Option, Some, None, refl, sym, ap, subst, ◌∙◌, nat_eq, arith}
+use Rattle.std.proofs.Common.{◌≡◌, ℕ, zero, suc, ◌+◌, ◌-◌, ◌<◌, ◌≤◌, true, false, cond, not, leb, ltb, List, [], ◌∷◌}
+use Rattle.std.proofs.Common.{◌++◌, filter, length, take, drop, add-one, slice_get, Option, Some, None, refl, sym, ap}
+use Rattle.std.proofs.Common.{subst, ◌∙◌, nat_eq, arith}
 use Rattle.std.specs.List.{range_with_len}
 use Rattle.std.specs.Map.{set_value, lookup, remove_entry, keys_of}
 use Rattle.std.specs.Prelude.{IsSome, OnOk, Result, Ok, Err}

@@ -1,5 +1,7 @@
 -- A whole table passes its tests exactly where it is one that commands could leave.
-use Rattle.std.proofs.Common.{◌≡◌, ℕ, zero, suc, ◌+◌, ◌*◌, ◌-◌, ◌/◌, ◌%◌, ◌<◌, ◌≤◌, Bool, true, false, cond, not, ◌&&◌, List, [], ◌∷◌, map, filter, length, Option, Some, None, refl, sym, ap, subst, ◌∙◌, arith, inl, inr, eqb, leb, ltb, slice_get}
+use Rattle.std.proofs.Common.{◌≡◌, ℕ, zero, suc, ◌+◌, ◌*◌, ◌-◌, ◌/◌, ◌%◌, ◌<◌, ◌≤◌, Bool, true, false, cond, not, ◌&&◌}
+use Rattle.std.proofs.Common.{List, [], ◌∷◌, map, filter, length, Option, Some, None, refl, sym, ap, subst, ◌∙◌, arith}
+use Rattle.std.proofs.Common.{inl, inr, eqb, leb, ltb, slice_get}
 use Rattle.std.specs.List.{find, list_all, list_any, count_by, range_with_len, AllByRecursion}
 use Rattle.std.specs.Option.{option_map_or}
 use Rattle.std.proofs.lemmas.Bool.{eqb-true, leb-true, and_parts, not-true}
@@ -10,18 +12,23 @@ use Rattle.flow_state.specs.declared.flow.FlowKind.{FlowKind}
 use Rattle.flow_state.specs.declared.flow.FlowKind.TheVariants.{BestEffort, Ugs, Poll, Station, Initial}
 use Rattle.flow_state.specs.declared.flow.Waiting.{Waiting}
 use Rattle.flow_state.specs.declared.whole.WholeTable.{WholeTable}
-use Rattle.flow_state.specs.Limits.{last_time, longest_interval, last_sid, most_waiting, is_good_channel, is_good_kind, is_size, takes_no_requests, due_time, due_index}
+use Rattle.flow_state.specs.Limits.{last_time, longest_interval, last_sid, most_waiting, is_good_channel, is_good_kind}
+use Rattle.flow_state.specs.Limits.{is_size, takes_no_requests, due_time, due_index}
 use Rattle.flow_state.specs.Rows.{Table, FlowRow, Lease, is_of, is_of_sid, lent_flow}
 use Rattle.flow_state.specs.Sound.{IsLeasedFlow}
 use Rattle.flow_state.specs.StoredFlows.{place_of}
 use Rattle.flow_state.specs.StoredTable.{MayBePut}
 use Rattle.flow_state.specs.View.{flow_view}
-use Rattle.flow_state.specs.Firm.{Has, IsWell, IsWellFlow, IsWellLease, IsWellRequest, RisingFrom, FitsChannel, IsIdle, idle, IsFirm, table_in}
-use Rattle.flow_state.specs.Tests.{is_firm_row, is_firm_lease, are_in_order, are_firm_leases, is_same_lease, stands_there, is_step, is_due_time, is_firm_flow, are_rising, are_firm_flows, is_last, has_asked, is_firm_request, is_alone, are_firm_requests, is_firm_whole}
+use Rattle.flow_state.specs.Firm.{Has, IsWell, IsWellFlow, IsWellLease, IsWellRequest, RisingFrom, FitsChannel, IsIdle}
+use Rattle.flow_state.specs.Firm.{idle, IsFirm, table_in}
+use Rattle.flow_state.specs.Tests.{is_firm_row, is_firm_lease, are_in_order, are_firm_leases, is_same_lease}
+use Rattle.flow_state.specs.Tests.{stands_there, is_step, is_due_time, is_firm_flow, are_rising, are_firm_flows}
+use Rattle.flow_state.specs.Tests.{is_last, has_asked, is_firm_request, is_alone, are_firm_requests, is_firm_whole}
 use Rattle.flow_state.proofs.Assignments.{eqb_same}
 use Rattle.flow_state.proofs.DueTimes.{some_interval}
 use Rattle.flow_state.proofs.Freed.{Runs, runs}
-use Rattle.flow_state.proofs.Members.{all_has, has_map, map_has, found_has, has_found, any_has, none_has, filter_empty, place_of as place_in}
+use Rattle.flow_state.proofs.Members.{all_has, has_map, map_has, found_has, has_found, any_has, none_has, filter_empty}
+use Rattle.flow_state.proofs.Members.{place_of as place_in}
 use Rattle.flow_state.proofs.Wells.{one_flow}
 
 -- ---- tests

@@ -1,5 +1,6 @@
 -- Entries whose keys stand in their values too, and the list of what the values mean.
-use Rattle.std.proofs.Common.{◌≡◌, ℕ, true, false, cond, not, filter, List, [], ◌∷◌, map, Some, None, refl, sym, ap, subst, ◌∙◌, eqb, nat_eq, arith}
+use Rattle.std.proofs.Common.{◌≡◌, ℕ, true, false, cond, not, filter, List, [], ◌∷◌, map, Some, None, refl, sym, ap}
+use Rattle.std.proofs.Common.{subst, ◌∙◌, eqb, nat_eq, arith}
 use Rattle.std.specs.List.{AllByRecursion, IsDistinct, find}
 use Rattle.std.specs.Option.{option_map}
 use Rattle.std.specs.Map.{set_value, lookup, remove_entry, keys_of}

@@ -1,11 +1,13 @@
 -- Leases that are named: the one of a modem and tag, and the names with one more lease.
-use Rattle.std.proofs.Common.{◌≡◌, ◌≢◌, ℕ, ◌≤◌, true, false, cond, not, ◌&&◌, List, length, slice_get, Option, Some, None, refl, sym, ap, ◌∙◌, eqb, ltb, arith}
+use Rattle.std.proofs.Common.{◌≡◌, ◌≢◌, ℕ, ◌≤◌, true, false, cond, not, ◌&&◌, List, length, slice_get, Option, Some}
+use Rattle.std.proofs.Common.{None, refl, sym, ap, ◌∙◌, eqb, ltb, arith}
 use Rattle.std.specs.List.{find}
 use Rattle.std.specs.Option.{option_map_or}
 use Rattle.std.proofs.lemmas.Bool.{eqb-true, and_parts, false_from_ne_true}
 use Rattle.std.proofs.lemmas.Option.{same_Some}
 use Rattle.flow_state.specs.Rows.{Lease}
-use Rattle.flow_state.specs.StoredLeases.{Names, AreNamedFrom, AreNamed, NameLeases, named, is_after, is_lease_from, put_at}
+use Rattle.flow_state.specs.StoredLeases.{Names, AreNamedFrom, AreNamed, NameLeases, named, is_after, is_lease_from}
+use Rattle.flow_state.specs.StoredLeases.{put_at}
 use Rattle.flow_state.proofs.Puts.{find_placed, find_nowhere, at_put, other_put}
 
 module _ (start modem tag : ℕ) (es : Names) (ls : List Lease) (are : AreNamedFrom start es ls) where

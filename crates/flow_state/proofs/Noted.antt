@@ -1,5 +1,6 @@
 -- What is kept of the flows' due times, and the flows that are due.
-use Rattle.std.proofs.Common.{◌≡◌, ◌≢◌, ℕ, ◌+◌, ◌<◌, ◌≤◌, Bool, true, false, cond, ◌&&◌, ltb, List, [], ◌∷◌, ◌++◌, map, filter, Some, None, refl, sym, ap, subst, ◌∙◌, nat_eq, arith, inl, inr}
+use Rattle.std.proofs.Common.{◌≡◌, ◌≢◌, ℕ, ◌+◌, ◌<◌, ◌≤◌, Bool, true, false, cond, ◌&&◌, ltb, List, [], ◌∷◌, ◌++◌, map}
+use Rattle.std.proofs.Common.{filter, Some, None, refl, sym, ap, subst, ◌∙◌, nat_eq, arith, inl, inr}
 use Rattle.std.specs.Prelude.{IsSome, IfSome, IfNone, option_to_list}
 use Rattle.std.specs.List.{AllByRecursion, IsDistinct}
 use Rattle.std.specs.Map.{set_value, lookup, remove_entry, keys_of}

@@ -1,5 +1,6 @@
 -- Lists by place: the first item that passes a test, and an item put at a place.
-use Rattle.std.proofs.Common.{◌≡◌, ◌≢◌, ℕ, ◌+◌, ◌<◌, ◌≤◌, Bool, true, false, cond, suc, zero, List, [], ◌∷◌, ◌++◌, length, slice_get, slice_set, Some, None, refl, ap, ◌∙◌, ltb, arith}
+use Rattle.std.proofs.Common.{◌≡◌, ◌≢◌, ℕ, ◌+◌, ◌<◌, ◌≤◌, Bool, true, false, cond, suc, zero, List, [], ◌∷◌, ◌++◌}
+use Rattle.std.proofs.Common.{length, slice_get, slice_set, Some, None, refl, ap, ◌∙◌, ltb, arith}
 use Rattle.std.specs.List.{find}
 use Rattle.std.proofs.lemmas.List.{length-set, length-append}
 use Rattle.flow_state.specs.StoredLeases.{put_at}

@@ -1,17 +1,20 @@
 -- Each change keeps what holds of every table.
-use Rattle.std.proofs.Common.{◌≡◌, ℕ, ◌+◌, ◌<◌, ◌≤◌, Bool, true, false, cond, not, List, [], ◌∷◌, map, filter, length, refl, sym, ap, subst, ◌∙◌, Some, eqb, arith, length-append, inl, inr}
+use Rattle.std.proofs.Common.{◌≡◌, ℕ, ◌+◌, ◌<◌, ◌≤◌, Bool, true, false, cond, not, List, [], ◌∷◌, map, filter, length}
+use Rattle.std.proofs.Common.{refl, sym, ap, subst, ◌∙◌, Some, eqb, arith, length-append, inl, inr}
 use Rattle.std.specs.List.{AllByRecursion}
 use Rattle.std.proofs.lemmas.Bool.{eqb-false, not-true, ltb-false}
 use Rattle.flow_state.specs.declared.flow.FlowKind.{FlowKind}
 use Rattle.flow_state.specs.declared.flow.Waiting.{Waiting}
 use Rattle.flow_state.specs.Limits.{is_good_kind, last_sid, most_waiting}
-use Rattle.flow_state.specs.Rows.{Table, FlowRow, Lease, is_flow, change_flow, is_of, insert_flow, put_lease, free_sid, is_ended, has_ended}
+use Rattle.flow_state.specs.Rows.{Table, FlowRow, Lease, is_flow, change_flow, is_of, insert_flow, put_lease, free_sid}
+use Rattle.flow_state.specs.Rows.{is_ended, has_ended}
 use Rattle.flow_state.specs.Changes.{new_flow, add_to_table, drop_in_table, request_in_table, close_table}
 use Rattle.flow_state.specs.Sound.{Rise, IsLeasedFlow, IsSound}
 use Rattle.flow_state.proofs.Assignments.{put_found, put_others}
 use Rattle.flow_state.proofs.Freed.{free_most, given_put, length_put, few_put}
 use Rattle.flow_state.proofs.Members.{Has, has_all, all_has, has_filter}
-use Rattle.flow_state.proofs.Wells.{RisingFrom, has_inserted, free_range, free_apart, filter_fewer, rising_filter, rising_inserted}
+use Rattle.flow_state.proofs.Wells.{RisingFrom, has_inserted, free_range, free_apart, filter_fewer, rising_filter}
+use Rattle.flow_state.proofs.Wells.{rising_inserted}
 
 abbrev pub sids : List FlowRow → List ℕ
 sids fs = map (λ f. f.sid) fs

@@ -1,5 +1,7 @@
 -- Stored flows and the rows that they mean.
-use Rattle.std.proofs.Common.{◌≡◌, ℕ, length, suc, zero, slice_get, ◌<◌, ◌≤◌, Bool, true, false, cond, not, leb, ltb, List, [], ◌∷◌, ◌++◌, map, filter, Option, Some, None, refl, sym, ap, subst, ◌∙◌, nat_eq, eqb, arith, inl, inr}
+use Rattle.std.proofs.Common.{◌≡◌, ℕ, length, suc, zero, slice_get, ◌<◌, ◌≤◌, Bool, true, false, cond, not, leb, ltb}
+use Rattle.std.proofs.Common.{List, [], ◌∷◌, ◌++◌, map, filter, Option, Some, None, refl, sym, ap, subst, ◌∙◌, nat_eq}
+use Rattle.std.proofs.Common.{eqb, arith, inl, inr}
 use Rattle.std.specs.Prelude.{IfSome, IfNone}
 use Rattle.std.specs.List.{AllByRecursion, IsDistinct, find}
 use Rattle.std.specs.Option.{option_map, option_map_or}

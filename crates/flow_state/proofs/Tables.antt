@@ -1,5 +1,6 @@
 -- Tables under the ids of their channels, and the rows that they are.
-use Rattle.std.proofs.Common.{◌≡◌, ℕ, [], ◌∷◌, ◌++◌, Option, Some, None, refl, sym, ap, subst, ◌∙◌, nat_eq, is_some, not, if◌then◌else◌}
+use Rattle.std.proofs.Common.{◌≡◌, ℕ, [], ◌∷◌, ◌++◌, Option, Some, None, refl, sym, ap, subst, ◌∙◌, nat_eq, is_some}
+use Rattle.std.proofs.Common.{not, if◌then◌else◌}
 use Rattle.std.specs.Prelude.{OnOk, IfErr, Result, Ok, Err}
 use Rattle.std.specs.List.{IsDistinct}
 use Rattle.flow_state.specs.declared.refusal.Refusal.{Refusal}

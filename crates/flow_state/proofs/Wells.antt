@@ -1,8 +1,11 @@
 -- Each change keeps a table well: times, sizes and SIDs within their limits, flows by SID, and a flow for each waiting request.
-use Rattle.std.proofs.Common.{◌≡◌, ◌⊎◌, ℕ, suc, ◌+◌, ◌*◌, ◌<◌, ◌≤◌, Bool, true, false, cond, not, ◌||◌, ◌&&◌, List, [], ◌∷◌, ◌++◌, map, filter, length, Option, Some, None, refl, sym, ap, subst, ◌∙◌, arith, inl, inr, eqb, leb, ltb, length-append}
+use Rattle.std.proofs.Common.{◌≡◌, ◌⊎◌, ℕ, suc, ◌+◌, ◌*◌, ◌<◌, ◌≤◌, Bool, true, false, cond, not, ◌||◌, ◌&&◌, List, []}
+use Rattle.std.proofs.Common.{◌∷◌, ◌++◌, map, filter, length, Option, Some, None, refl, sym, ap, subst, ◌∙◌, arith, inl}
+use Rattle.std.proofs.Common.{inr, eqb, leb, ltb, length-append}
 use Rattle.std.specs.Option.{option_map_or}
 use Rattle.std.specs.Prelude.{unwrap_or}
-use Rattle.std.proofs.lemmas.Bool.{eqb-true, leb-true, and_parts, or_parts, not-false, leb-false, ltb-false, false_from_ne_true}
+use Rattle.std.proofs.lemmas.Bool.{eqb-true, leb-true, and_parts, or_parts, not-false, leb-false, ltb-false}
+use Rattle.std.proofs.lemmas.Bool.{false_from_ne_true}
 use Rattle.flow_state.specs.declared.channel.Channel.{Channel}
 use Rattle.flow_state.specs.declared.flow.FlowKind.{FlowKind}
 use Rattle.flow_state.specs.declared.flow.FlowKind.TheVariants.{BestEffort, Ugs, Poll, Station, Initial}
@@ -10,16 +13,22 @@ use Rattle.flow_state.specs.declared.flow.Waiting.{Waiting}
 use Rattle.flow_state.specs.declared.refusal.Refusal.{Refusal}
 use Rattle.flow_state.specs.declared.refusal.Refusal.TheVariants.{BadValue, OldRequest, Busy}
 use Rattle.flow_state.specs.declared.settings.ChannelSettings.{ChannelSettings}
-use Rattle.flow_state.specs.Limits.{last_time, longest_interval, last_sid, most_waiting, is_backoff, is_good_channel, are_good_settings, is_good_kind, is_size, is_schedule, takes_no_requests, due_time}
-use Rattle.flow_state.specs.Rows.{Table, FlowRow, Lease, is_flow, is_of, flow_of, lease_of, is_of_sid, is_leased, unicast_sids, free_sid, insert_flow, waits, is_ended, has_ended, lease_in}
+use Rattle.flow_state.specs.Limits.{last_time, longest_interval, last_sid, most_waiting, is_backoff, is_good_channel}
+use Rattle.flow_state.specs.Limits.{are_good_settings, is_good_kind, is_size, is_schedule, takes_no_requests, due_time}
+use Rattle.flow_state.specs.Rows.{Table, FlowRow, Lease, is_flow, is_of, flow_of, lease_of, is_of_sid, is_leased}
+use Rattle.flow_state.specs.Rows.{unicast_sids, free_sid, insert_flow, waits, is_ended, has_ended, lease_in}
 pub use Rattle.flow_state.specs.Firm.{IsWellFlow, IsWellLease, IsWellRequest, RisingFrom, IsWell}
 use Rattle.flow_state.specs.Sound.{IsLeasedFlow}
-use Rattle.flow_state.specs.Refusals.{is_good_count, table_change_refusal, table_flow_refusal, table_request_refusal, request_refusal_on, is_old, is_repeated}
-use Rattle.flow_state.specs.Changes.{new_table, with_settings, change_in_table, new_flow, new_lease, add_to_table, flow_among, drop_in_table, request_in_table}
-use Rattle.flow_state.proofs.Members.{Has, has_between, has_left, has_right, has_pushed, has_map, map_has, has_filter, filter_has, none_has, found_has, has_found, range_has, filter_empty}
+use Rattle.flow_state.specs.Refusals.{is_good_count, table_change_refusal, table_flow_refusal, table_request_refusal}
+use Rattle.flow_state.specs.Refusals.{request_refusal_on, is_old, is_repeated}
+use Rattle.flow_state.specs.Changes.{new_table, with_settings, change_in_table, new_flow, new_lease, add_to_table}
+use Rattle.flow_state.specs.Changes.{flow_among, drop_in_table, request_in_table}
+use Rattle.flow_state.proofs.Members.{Has, has_between, has_left, has_right, has_pushed, has_map, map_has, has_filter}
+use Rattle.flow_state.proofs.Members.{filter_has, none_has, found_has, has_found, range_has, filter_empty}
 use Rattle.flow_state.proofs.Filters.{filter_append, filter_swap}
 use Rattle.flow_state.proofs.Freed.{free_most, given_put, few_put}
-use Rattle.flow_state.proofs.Assignments.{eqb_same, unwrap_some, free_is_free, leased, first_early, has_put, put_found, put_others, is_added, IsAdded}
+use Rattle.flow_state.proofs.Assignments.{eqb_same, unwrap_some, free_is_free, leased, first_early, has_put, put_found}
+use Rattle.flow_state.proofs.Assignments.{put_others, is_added, IsAdded}
 
 -- ---- tests
 

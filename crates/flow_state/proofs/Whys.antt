@@ -1,5 +1,6 @@
 -- The first reason is one of the first refusal.
-use Rattle.std.proofs.Common.{◌≡◌, ℕ, Bool, true, false, cond, not, ◌&&◌, ◌||◌, length, Option, Some, None, refl, ap, ◌∙◌, arith, eqb, leb, ltb, is_some, is_none}
+use Rattle.std.proofs.Common.{◌≡◌, ℕ, Bool, true, false, cond, not, ◌&&◌, ◌||◌, length, Option, Some, None, refl, ap}
+use Rattle.std.proofs.Common.{◌∙◌, arith, eqb, leb, ltb, is_some, is_none}
 use Rattle.std.specs.Option.{option_or, option_map, option_map_or}
 use Rattle.flow_state.specs.declared.channel.Channel.{Channel}
 use Rattle.flow_state.specs.declared.settings.ChannelSettings.{ChannelSettings}
@@ -9,11 +10,18 @@ use Rattle.flow_state.specs.declared.refusal.Refusal.{Refusal}
 use Rattle.flow_state.specs.declared.refusal.Refusal.TheVariants as refusals
 use Rattle.flow_state.specs.declared.reason.Field.{Field}
 use Rattle.flow_state.specs.declared.reason.Reason.{Reason}
-use Rattle.flow_state.specs.declared.reason.Reason.TheVariants.{NoChannel, SidsSpent, Waits, Full, BeforeLease, OtherPhy, OtherShortMax, WrongCount}
-use Rattle.flow_state.specs.Limits.{last_time, longest_interval, most_waiting, is_backoff, is_good_channel, are_good_settings, is_size, is_schedule, is_good_kind, takes_no_requests}
-use Rattle.flow_state.specs.Refusals.{set_channel_refusal, is_same_phy, is_good_count, next_count, table_change_refusal, is_good_last, table_flow_refusal, table_drop_refusal, is_repeated, is_old, is_busy, request_refusal_on, table_request_refusal, on_table}
+use Rattle.flow_state.specs.declared.reason.Reason.TheVariants.{NoChannel, SidsSpent, Waits, Full, BeforeLease}
+use Rattle.flow_state.specs.declared.reason.Reason.TheVariants.{OtherPhy, OtherShortMax, WrongCount}
+use Rattle.flow_state.specs.Limits.{last_time, longest_interval, most_waiting, is_backoff, is_good_channel}
+use Rattle.flow_state.specs.Limits.{are_good_settings, is_size, is_schedule, is_good_kind, takes_no_requests}
+use Rattle.flow_state.specs.Refusals.{set_channel_refusal, is_same_phy, is_good_count, next_count, table_change_refusal}
+use Rattle.flow_state.specs.Refusals.{is_good_last, table_flow_refusal, table_drop_refusal, is_repeated, is_old}
+use Rattle.flow_state.specs.Refusals.{is_busy, request_refusal_on, table_request_refusal, on_table}
 use Rattle.flow_state.specs.Rows.{Rows, Table, FlowRow, table_of, flow_of, lease_of, free_sid, waits}
-use Rattle.flow_state.specs.Reasons.{reason_refusal, if_so, outside, either, first_of, why_backoff, why_values, why_bad_channel, why_schedule, why_sized, why_kind, why_count, why_change, why_last, why_flow, why_drop, why_bad_request, why_repeated, why_old, why_busy, why_request_on, why_request, why_set_channel, why_on}
+use Rattle.flow_state.specs.Reasons.{reason_refusal, if_so, outside, either, first_of, why_backoff, why_values}
+use Rattle.flow_state.specs.Reasons.{why_bad_channel, why_schedule, why_sized, why_kind, why_count, why_change}
+use Rattle.flow_state.specs.Reasons.{why_last, why_flow, why_drop, why_bad_request, why_repeated, why_old, why_busy}
+use Rattle.flow_state.specs.Reasons.{why_request_on, why_request, why_set_channel, why_on}
 
 abbrev pub refusal : Option Reason → Option Refusal
 refusal o = option_map reason_refusal o

@@ -1,5 +1,6 @@
 -- The rows after each call that isn't refused.
-use Rattle.std.specs.Prelude.{◌≡◌, ℕ, List, [], ◌∷◌, ◌++◌, map, filter, not, if◌then◌else◌, Bool, false, is_some, unwrap_or, Option, Some, None}
+use Rattle.std.specs.Prelude.{◌≡◌, ℕ, List, [], ◌∷◌, ◌++◌, map, filter, not, if◌then◌else◌, Bool, false, is_some}
+use Rattle.std.specs.Prelude.{unwrap_or, Option, Some, None}
 use Rattle.std.specs.Option.{option_and_then, option_map_or}
 use Rattle.flow_state.specs.declared.channel.Channel.{Channel}
 use Rattle.flow_state.specs.declared.settings.ChannelSettings.{ChannelSettings}
@@ -7,7 +8,9 @@ use Rattle.flow_state.specs.declared.flow.Flow.{Flow}
 use Rattle.flow_state.specs.declared.flow.FlowKind.{FlowKind}
 use Rattle.flow_state.specs.declared.flow.Waiting.{Waiting}
 use Rattle.flow_state.specs.Limits.{due_index, IsDueTime}
-use Rattle.flow_state.specs.Rows.{Rows, Table, FlowRow, Lease, table_of, change_table, flow_of, change_flow, is_flow, lease_of, free_sid, first_of, put_lease, insert_flow, is_ended, has_ended, without_request, waits}
+use Rattle.flow_state.specs.Rows.{Rows, Table, FlowRow, Lease, table_of, change_table, flow_of, change_flow, is_flow}
+use Rattle.flow_state.specs.Rows.{lease_of, free_sid, first_of, put_lease, insert_flow, is_ended, has_ended}
+use Rattle.flow_state.specs.Rows.{without_request, waits}
 
 -- a channel as it is set: nothing given, its first MAP begins at its base
 abbrev pub new_table : Channel → Table

@@ -8,7 +8,8 @@ use Rattle.flow_state.specs.declared.flow.Waiting.{Waiting}
 use Rattle.flow_state.specs.declared.whole.WholeTable.{WholeTable}
 use Rattle.flow_state.specs.declared.whole.NotAdopted.{NotAdopted}
 use Rattle.flow_state.specs.declared.whole.NotAdopted.TheVariants.{NotFirm, OutOfMemory}
-use Rattle.flow_state.specs.Limits.{last_time, longest_interval, last_sid, most_waiting, is_good_channel, is_good_kind, takes_no_requests, due_time}
+use Rattle.flow_state.specs.Limits.{last_time, longest_interval, last_sid, most_waiting, is_good_channel, is_good_kind}
+use Rattle.flow_state.specs.Limits.{takes_no_requests, due_time}
 use Rattle.flow_state.specs.Rows.{Rows, Table, FlowRow, Lease, table_of, is_of, lent_flow}
 use Rattle.flow_state.specs.Sound.{IsLeasedFlow}
 use Rattle.flow_state.specs.View.{flow_view}

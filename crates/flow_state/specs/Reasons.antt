@@ -1,5 +1,6 @@
 -- Why a call is refused: the first limit that refuses, in the order of the limits.
-use Rattle.std.specs.Prelude.{ℕ, ◌==◌, Bool, not, ◌&&◌, nat_le, nat_lt, is_some, is_none, if◌then◌else◌, length, Option, Some, None}
+use Rattle.std.specs.Prelude.{ℕ, ◌==◌, Bool, not, ◌&&◌, nat_le, nat_lt, is_some, is_none, if◌then◌else◌, length, Option}
+use Rattle.std.specs.Prelude.{Some, None}
 use Rattle.std.specs.Option.{option_or, option_map_or}
 use Rattle.flow_state.specs.declared.limits.TheConstants.{LARGEST_SIZE, LAST_BACKOFF, HIGHEST_PRIORITY}
 use Rattle.flow_state.specs.declared.channel.Channel.{Channel}
@@ -11,7 +12,10 @@ use Rattle.flow_state.specs.declared.refusal.Refusal.TheVariants as refusals
 use Rattle.flow_state.specs.declared.reason.Field.{Field}
 use Rattle.flow_state.specs.declared.reason.Field.TheVariants as fields
 use Rattle.flow_state.specs.declared.reason.Reason.{Reason}
-use Rattle.flow_state.specs.declared.reason.Reason.TheVariants.{NoChannel, ChannelThere, NoFlow, SidsSpent, Waits, Full, BeforeLease, Repeated, Outside, JitterTooLong, BackoffTurned, LastTooEarly, BehindLease, TakesNoRequests, WrongCount, OtherPhy, OtherShortMax}
+use Rattle.flow_state.specs.declared.reason.Reason.TheVariants.{NoChannel, ChannelThere, NoFlow, SidsSpent, Waits, Full}
+use Rattle.flow_state.specs.declared.reason.Reason.TheVariants.{BeforeLease, Repeated, Outside, JitterTooLong}
+use Rattle.flow_state.specs.declared.reason.Reason.TheVariants.{BackoffTurned, LastTooEarly, BehindLease}
+use Rattle.flow_state.specs.declared.reason.Reason.TheVariants.{TakesNoRequests, WrongCount, OtherPhy, OtherShortMax}
 use Rattle.flow_state.specs.Limits.{last_time, longest_interval, most_waiting, takes_no_requests}
 use Rattle.flow_state.specs.Refusals.{is_same_phy, next_count}
 use Rattle.flow_state.specs.Rows.{Rows, Table, FlowRow, table_of, flow_of, lease_of, free_sid, waits}

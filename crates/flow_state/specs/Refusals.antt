@@ -1,5 +1,6 @@
 -- The first refusal of each call that applies, in order.
-use Rattle.std.specs.Prelude.{◌≡◌, ℕ, ◌+◌, ◌%◌, ◌==◌, Bool, true, false, not, ◌&&◌, ◌||◌, nat_le, nat_lt, is_some, is_none, if◌then◌else◌, length, Option, Some, None}
+use Rattle.std.specs.Prelude.{◌≡◌, ℕ, ◌+◌, ◌%◌, ◌==◌, Bool, true, false, not, ◌&&◌, ◌||◌, nat_le, nat_lt, is_some}
+use Rattle.std.specs.Prelude.{is_none, if◌then◌else◌, length, Option, Some, None}
 use Rattle.std.specs.Option.{option_map_or}
 use Rattle.flow_state.specs.declared.channel.Channel.{Channel}
 use Rattle.flow_state.specs.declared.channel.Phy.{Phy}
@@ -7,8 +8,10 @@ use Rattle.flow_state.specs.declared.channel.Phy.TheVariants.{Tdma, Advanced}
 use Rattle.flow_state.specs.declared.settings.ChannelSettings.{ChannelSettings}
 use Rattle.flow_state.specs.declared.flow.FlowKind.{FlowKind}
 use Rattle.flow_state.specs.declared.refusal.Refusal.{Refusal}
-use Rattle.flow_state.specs.declared.refusal.Refusal.TheVariants.{NoChannel, ChannelThere, NoFlow, SidsSpent, Busy, OldRequest, BadValue, OutOfMemory}
-use Rattle.flow_state.specs.Limits.{is_good_channel, are_good_settings, is_good_kind, is_size, takes_no_requests, last_time, most_waiting}
+use Rattle.flow_state.specs.declared.refusal.Refusal.TheVariants.{NoChannel, ChannelThere, NoFlow, SidsSpent, Busy}
+use Rattle.flow_state.specs.declared.refusal.Refusal.TheVariants.{OldRequest, BadValue, OutOfMemory}
+use Rattle.flow_state.specs.Limits.{is_good_channel, are_good_settings, is_good_kind, is_size, takes_no_requests}
+use Rattle.flow_state.specs.Limits.{last_time, most_waiting}
 use Rattle.flow_state.specs.Rows.{Rows, Table, FlowRow, table_of, flow_of, lease_of, free_sid, waits}
 
 abbrev pub set_channel_refusal : Rows → Channel → Option Refusal

@@ -1,5 +1,6 @@
 -- The scheduler's state as plain lists: a table for each channel, in the order in which channels were set.
-use Rattle.std.specs.Prelude.{ℕ, Bool, false, ◌&&◌, ◌==◌, not, if◌then◌else◌, List, ◌∷◌, ◌++◌, map, Option, Some, None, slice_get, nat_le, nat_lt}
+use Rattle.std.specs.Prelude.{ℕ, Bool, false, ◌&&◌, ◌==◌, not, if◌then◌else◌, List, ◌∷◌, ◌++◌, map, Option, Some, None}
+use Rattle.std.specs.Prelude.{slice_get, nat_le, nat_lt}
 use Rattle.std.specs.List.{find, filter, list_any, range_with_len}
 use Rattle.std.specs.Option.{option_map, option_map_or, option_and_then}
 use Rattle.flow_state.specs.declared.channel.ChannelRow.{ChannelRow}

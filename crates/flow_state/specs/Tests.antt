@@ -1,5 +1,6 @@
 -- The tests by which a whole table is found to be one that commands could leave, or not.
-use Rattle.std.specs.Prelude.{ℕ, ◌+◌, ◌-◌, ◌%◌, ◌==◌, ◌&&◌, not, nat_le, nat_lt, Bool, true, false, List, [], ◌∷◌, length, Option, slice_get}
+use Rattle.std.specs.Prelude.{ℕ, ◌+◌, ◌-◌, ◌%◌, ◌==◌, ◌&&◌, not, nat_le, nat_lt, Bool, true, false, List, [], ◌∷◌}
+use Rattle.std.specs.Prelude.{length, Option, slice_get}
 use Rattle.std.specs.List.{find, list_all, count_by}
 use Rattle.std.specs.Option.{option_map_or}
 use Rattle.flow_state.specs.declared.channel.ChannelRow.{ChannelRow}
@@ -8,7 +9,8 @@ use Rattle.flow_state.specs.declared.flow.FlowKind.{FlowKind}
 use Rattle.flow_state.specs.declared.flow.FlowKind.TheVariants.{BestEffort, Ugs, Poll, Station, Initial}
 use Rattle.flow_state.specs.declared.flow.Waiting.{Waiting}
 use Rattle.flow_state.specs.declared.whole.WholeTable.{WholeTable}
-use Rattle.flow_state.specs.Limits.{last_time, longest_interval, last_sid, most_waiting, is_good_channel, is_good_kind, is_size, takes_no_requests}
+use Rattle.flow_state.specs.Limits.{last_time, longest_interval, last_sid, most_waiting, is_good_channel, is_good_kind}
+use Rattle.flow_state.specs.Limits.{is_size, takes_no_requests}
 use Rattle.flow_state.specs.Rows.{Lease, is_of}
 use Rattle.flow_state.specs.StoredFlows.{place_of}
 

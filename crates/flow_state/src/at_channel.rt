@@ -1,6 +1,7 @@
 //! Calls on the table of a channel, found by the channel's id.
 
-ghost use Rattle.std.specs.Prelude.{◌≡◌, ◌≤◌, [], ◌∷◌, ◌++◌, List, map, length, None, Some, OnErr, nat_eq, is_some, false, IsOk, OnOk, IfOk, IfErr, IsTrue};
+ghost use Rattle.std.specs.Prelude.{◌≡◌, ◌≤◌, [], ◌∷◌, ◌++◌, List, map, length, None, Some, OnErr, nat_eq, is_some};
+ghost use Rattle.std.specs.Prelude.{false, IsOk, OnOk, IfOk, IfErr, IsTrue};
 ghost use Rattle.std.specs.Fn.{CalledAt};
 ghost use Rattle.std.specs.List.{AllByRecursion, range_with_len};
 ghost use Rattle.std.specs.List.Retain.{IsFiltered};
@@ -13,8 +14,11 @@ ghost use Rattle.flow_state.specs.View.{flow_view};
 ghost use Rattle.flow_state.specs.Tests.{is_firm_whole};
 ghost use Rattle.flow_state.specs.Firm.{RisingFrom, FitsChannel, table_in, IsAdoptable, Declines};
 ghost use Rattle.flow_state.specs.Rows.{Table, FlowRow, flow_of, lease_of, waits, without_request};
-ghost use Rattle.flow_state.specs.Refusals.{Refuses, table_change_refusal, table_flow_refusal, table_drop_refusal, table_request_refusal};
-ghost use Rattle.flow_state.specs.Changes.{new_table, change_in_table, lease_on, flow_in_table, drop_in_table, request_in_table, waiting_in_table, waiting_of, due_in_table, close_table, TellsDue, told_in_table, finish_table};
+ghost use Rattle.flow_state.specs.Refusals.{Refuses, table_change_refusal, table_flow_refusal, table_drop_refusal};
+ghost use Rattle.flow_state.specs.Refusals.{table_request_refusal};
+ghost use Rattle.flow_state.specs.Changes.{new_table, change_in_table, lease_on, flow_in_table, drop_in_table};
+ghost use Rattle.flow_state.specs.Changes.{request_in_table, waiting_in_table, waiting_of, due_in_table, close_table};
+ghost use Rattle.flow_state.specs.Changes.{TellsDue, told_in_table, finish_table};
 
 use crate::channel::Channel;
 use crate::flow::{Flow, FlowKind, Lease, Waiting};

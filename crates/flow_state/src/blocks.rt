@@ -1,6 +1,7 @@
 //! Leases in blocks of 128 places, each block with a time before which none of its leases ends.
 
-ghost use Rattle.std.specs.Prelude.{◌≡◌, ℕ, ◌+◌, ◌*◌, ◌/◌, ◌<◌, ◌≤◌, length, find, slice_get, Some, nat_lt, vec_len, vec_capacity, IfNone, IfSome};
+ghost use Rattle.std.specs.Prelude.{◌≡◌, ℕ, ◌+◌, ◌*◌, ◌/◌, ◌<◌, ◌≤◌, length, find, slice_get, Some, nat_lt, vec_len};
+ghost use Rattle.std.specs.Prelude.{vec_capacity, IfNone, IfSome};
 ghost use Rattle.flow_state.specs.Limits.{last_sid};
 ghost use Rattle.flow_state.specs.StoredLeases.{IsBound, IsBoundBefore, AreBounds, IsFirstOver, put_at};
 

@@ -31,7 +31,8 @@ impl Model for FlowsBySid {
 }
 
 impl FlowsBySid {
-    ghost use Rattle.std.specs.Prelude.{◌≡◌, ◌≤◌, ◌<◌, ◌+◌, [], ◌∷◌, ◌++◌, map, filter, not, max, is_some, slice_get, None, nat_eq, nat_le, IsSome, OnOk, IfSome, IfNone};
+    ghost use Rattle.std.specs.Prelude.{◌≡◌, ◌≤◌, ◌<◌, ◌+◌, [], ◌∷◌, ◌++◌, map, filter, not, max, is_some, slice_get};
+    ghost use Rattle.std.specs.Prelude.{None, nat_eq, nat_le, IsSome, OnOk, IfSome, IfNone};
     ghost use Rattle.std.specs.Map.{lookup, set_value, remove_entry};
     ghost use Rattle.std.specs.Option.{option_copied, option_map};
     ghost use Rattle.flow_state.specs.Limits.{last_sid};

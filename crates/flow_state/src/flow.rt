@@ -1,5 +1,6 @@
 ghost use Rattle.std.specs.Prelude.{◌≡◌, None, IsTrue};
-ghost use Rattle.flow_state.specs.Limits.{is_size as size_fits, is_schedule as schedule_fits, is_good_kind, takes_no_requests, is_timed, due_time};
+ghost use Rattle.flow_state.specs.Limits.{is_size as size_fits, is_schedule as schedule_fits, is_good_kind};
+ghost use Rattle.flow_state.specs.Limits.{takes_no_requests, is_timed, due_time};
 ghost use Rattle.flow_state.specs.Refusals.{is_repeated, is_old, first_refusal};
 ghost use Rattle.flow_state.specs.View.{flow_view};
 

@@ -31,7 +31,8 @@ impl Model for Flows {
 }
 
 impl Flows {
-    ghost use Rattle.std.specs.Prelude.{◌≡◌, List, [], ◌∷◌, ◌++◌, length, slice_get, Some, is_some, IsTrue, IsOk, OnOk, OnErr, IfOk, IfErr, IfSome, ◌<◌, ◌≤◌};
+    ghost use Rattle.std.specs.Prelude.{◌≡◌, List, [], ◌∷◌, ◌++◌, length, slice_get, Some, is_some, IsTrue, IsOk, OnOk};
+    ghost use Rattle.std.specs.Prelude.{OnErr, IfOk, IfErr, IfSome, ◌<◌, ◌≤◌};
     ghost use Rattle.std.specs.Fn.{CalledAt};
     ghost use Rattle.std.specs.List.{AllByRecursion};
     ghost use Rattle.std.specs.List.Retain.{IsFiltered};
@@ -40,9 +41,14 @@ impl Flows {
     ghost use Rattle.flow_state.specs.Sound.{IsSound};
     ghost use Rattle.flow_state.specs.Firm.{AreFirm, table_in, IsAdoptable, Declines};
     ghost use Rattle.flow_state.specs.Rows.{FlowRow, Table, table_of, lent_flow, channel_at, flow_at, waiting_at};
-    ghost use Rattle.flow_state.specs.Refusals.{Refuses, set_channel_refusal, change_channel_refusal, add_flow_refusal, drop_flow_refusal, request_refusal};
-    ghost use Rattle.flow_state.specs.Reasons.{reason_refusal, why_set_channel, why_on, why_change, why_flow, why_drop, why_request};
-    ghost use Rattle.flow_state.specs.Changes.{with_channel, with_settings_on, is_known, lease_given, with_flow, without_flow, with_request, is_waiting, without_waiting, with_waiting, waiting_of, flow_row, with_due, with_cut_closed, TellsDue, with_cut_finished};
+    ghost use Rattle.flow_state.specs.Refusals.{Refuses, set_channel_refusal, change_channel_refusal, add_flow_refusal};
+    ghost use Rattle.flow_state.specs.Refusals.{drop_flow_refusal, request_refusal};
+    ghost use Rattle.flow_state.specs.Reasons.{reason_refusal, why_set_channel, why_on, why_change, why_flow, why_drop};
+    ghost use Rattle.flow_state.specs.Reasons.{why_request};
+    ghost use Rattle.flow_state.specs.Changes.{with_channel, with_settings_on, is_known, lease_given, with_flow};
+    ghost use Rattle.flow_state.specs.Changes.{without_flow, with_request, is_waiting, without_waiting, with_waiting};
+    ghost use Rattle.flow_state.specs.Changes.{waiting_of, flow_row, with_due, with_cut_closed, TellsDue};
+    ghost use Rattle.flow_state.specs.Changes.{with_cut_finished};
 
     /// No channel is set.
     pub fn new(alloc: Global) -> Flows

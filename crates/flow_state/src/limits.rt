@@ -1,6 +1,7 @@
 ghost use Rattle.std.specs.Prelude.{◌≡◌, ℕ, ◌^◌, ◌&&◌, nat_le};
 ghost use Rattle.flow_state.specs.declared.flow.FlowKind.TheVariants.{BestEffort};
-ghost use Rattle.flow_state.specs.Limits.{last_time, most_minislots, last_sid, longest_interval, most_waiting, is_size, is_backoff, is_good_kind};
+ghost use Rattle.flow_state.specs.Limits.{last_time, most_minislots, last_sid, longest_interval, most_waiting, is_size};
+ghost use Rattle.flow_state.specs.Limits.{is_backoff, is_good_kind};
 
 /// The last minislot time that a command may have.
 pub const LAST_TIME: u64 = 1 << 62;

@@ -1,7 +1,9 @@
 //! Why a call on the rows is refused: which value it is, and what it may be.
 
 ghost use Rattle.std.specs.Prelude.{◌≡◌};
-ghost use Rattle.flow_state.specs.Reasons.{if_so, reason_refusal, outside, why_backoff, why_values, why_bad_channel, why_schedule, why_sized, why_kind, why_count, why_settings, why_last, why_bad_request, why_repeated, why_old, why_not_asked};
+ghost use Rattle.flow_state.specs.Reasons.{if_so, reason_refusal, outside, why_backoff, why_values, why_bad_channel};
+ghost use Rattle.flow_state.specs.Reasons.{why_schedule, why_sized, why_kind, why_count, why_settings, why_last};
+ghost use Rattle.flow_state.specs.Reasons.{why_bad_request, why_repeated, why_old, why_not_asked};
 ghost use Rattle.flow_state.specs.View.{flow_view};
 
 use crate::channel::Channel;

@@ -3,7 +3,10 @@
 ghost use Rattle.std.specs.Prelude.{◌≡◌, ◌==◌};
 ghost use Rattle.std.specs.List.{find, list_all};
 ghost use Rattle.flow_state.specs.Firm.{FitsChannel};
-ghost use Rattle.flow_state.specs.Tests.{is_firm_row, is_firm_lease, are_in_order, are_firm_leases, is_same_lease, stands_there, is_step, is_due_time, is_firm_flow, are_rising, are_firm_flows, is_last, has_asked, is_firm_request, is_alone, are_firm_requests, is_firm_whole};
+ghost use Rattle.flow_state.specs.Tests.{is_firm_row, is_firm_lease, are_in_order, are_firm_leases, is_same_lease};
+ghost use Rattle.flow_state.specs.Tests.{stands_there, is_step, is_due_time, is_firm_flow, are_rising, are_firm_flows};
+ghost use Rattle.flow_state.specs.Tests.{is_last, has_asked, is_firm_request, is_alone, are_firm_requests};
+ghost use Rattle.flow_state.specs.Tests.{is_firm_whole};
 
 use crate::by_sid::place_of;
 use crate::channel::{Channel, ChannelRow};

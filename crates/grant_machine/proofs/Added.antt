@@ -1,5 +1,7 @@
 -- The grants before a lease is told lie before it or are to other SIDs, and then its flow begins at due time number 0.
-use Rattle.std.proofs.Common.{◌≡◌, ℕ, zero, suc, ◌+◌, ◌<◌, ◌≤◌, Bool, true, false, cond, not, List, [], ◌∷◌, ◌++◌, filter, length, Option, Some, None, refl, sym, ap, subst, ◌∙◌, arith, eqb, inl, inr, slice_get, append_assoc}
+use Rattle.std.proofs.Common.{◌≡◌, ℕ, zero, suc, ◌+◌, ◌<◌, ◌≤◌, Bool, true, false, cond, not, List, [], ◌∷◌, ◌++◌}
+use Rattle.std.proofs.Common.{filter, length, Option, Some, None, refl, sym, ap, subst, ◌∙◌, arith, eqb, inl, inr}
+use Rattle.std.proofs.Common.{slice_get, append_assoc}
 use Rattle.std.proofs.lemmas.Option.{same_Some}
 use Rattle.std.specs.List.{list_any, find}
 use Rattle.std.specs.List.Sorted.{IsStrictlyIncreasing}
@@ -9,9 +11,11 @@ use Rattle.flow_state.specs.declared.flow.FlowKind.{FlowKind}
 use Rattle.flow_state.specs.declared.flow.FlowKind.TheVariants.{Ugs, Station, Initial}
 use Rattle.flow_state.specs.declared.refusal.Refusal.{Refusal}
 use Rattle.flow_state.specs.declared.flow.Lease.{Lease}
-use Rattle.flow_state.specs.Rows.{Rows, Table, FlowRow, is_flow, is_of, is_of_sid, is_given, table_of, change_table, lease_of, free_sid, first_of, put_lease, insert_flow, lease_in}
+use Rattle.flow_state.specs.Rows.{Rows, Table, FlowRow, is_flow, is_of, is_of_sid, is_given, table_of, change_table}
+use Rattle.flow_state.specs.Rows.{lease_of, free_sid, first_of, put_lease, insert_flow, lease_in}
 use Rattle.flow_state.specs.Refusals.{table_flow_refusal}
-use Rattle.flow_state.specs.Changes.{new_flow, new_lease, flow_among, flow_in_table, lease_among, lease_for, lease_on, lease_given}
+use Rattle.flow_state.specs.Changes.{new_flow, new_lease, flow_among, flow_in_table, lease_among, lease_for, lease_on}
+use Rattle.flow_state.specs.Changes.{lease_given}
 use Rattle.grant_machine.specs.declared.command.Command.{Command}
 use Rattle.grant_machine.specs.declared.command.Command.TheVariants as commands
 use Rattle.grant_machine.specs.declared.output.Output.{Output}
@@ -24,7 +28,8 @@ use Rattle.grant_machine.specs.Laws.{LeasedSid, IsAddedAt, UnsolicitedGrantsAreD
 use Rattle.grant_machine.specs.Maintenance.{AreDueUnder, MaintenanceIsDue}
 use Rattle.grant_machine_parts.proofs.Callers.{IsSized, Rising, cut_placed}
 use Rattle.flow_state.proofs.Callers.{some_is, eqb_same, flow_keeps_id, filter_append, filter_empty, filter_sub}
-use Rattle.flow_state.proofs.Callers.{Has, has_any, any_has, found_has, has_found, has_either, put_found, put_others, IsWell, flow_lease}
+use Rattle.flow_state.proofs.Callers.{Has, has_any, any_has, found_has, has_found, has_either, put_found, put_others}
+use Rattle.flow_state.proofs.Callers.{IsWell, flow_lease}
 use Rattle.grant_machine.proofs.Leases.{IsNew, is_new, flow_step_is, put_has}
 use Rattle.grant_machine.proofs.Turns.{made, Changes, before, found_changed}
 use Rattle.grant_machine.proofs.Reached.{Kept, Stands, stands_step, AllWell, none_well, well_step}

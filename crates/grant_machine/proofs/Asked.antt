@@ -1,5 +1,6 @@
 -- Once a request was accepted, each later one of its SID was sent later, also under a later lease.
-use Rattle.std.proofs.Common.{◌≡◌, ◌≢◌, ◌⊎◌, ℕ, ◌<◌, ◌≤◌, Bool, true, false, cond, not, List, Option, Some, None, refl, sym, ap, subst, ◌∙◌, arith, inl, inr, eqb}
+use Rattle.std.proofs.Common.{◌≡◌, ◌≢◌, ◌⊎◌, ℕ, ◌<◌, ◌≤◌, Bool, true, false, cond, not, List, Option, Some, None, refl}
+use Rattle.std.proofs.Common.{sym, ap, subst, ◌∙◌, arith, inl, inr, eqb}
 use Rattle.std.specs.List.{find, list_any}
 use Rattle.std.specs.Prelude.{unwrap_or}
 use Rattle.std.proofs.lemmas.Bool.{eqb-true, eqb-false, leb-false}
@@ -7,15 +8,18 @@ use Rattle.flow_state.specs.declared.settings.ChannelSettings.{ChannelSettings}
 use Rattle.flow_state.specs.declared.flow.FlowKind.{FlowKind}
 use Rattle.flow_state.specs.declared.flow.Waiting.{Waiting}
 use Rattle.flow_state.specs.declared.flow.Lease.{Lease}
-use Rattle.flow_state.specs.Rows.{Table, FlowRow, is_of, is_of_sid, is_flow, lease_of, free_sid, first_of, put_lease, has_ended, lease_in}
+use Rattle.flow_state.specs.Rows.{Table, FlowRow, is_of, is_of_sid, is_flow, lease_of, free_sid, first_of, put_lease}
+use Rattle.flow_state.specs.Rows.{has_ended, lease_in}
 use Rattle.flow_state.specs.Refusals.{is_repeated, table_change_refusal, table_flow_refusal, table_request_refusal}
 use Rattle.flow_state.specs.Changes.{change_in_table, new_flow, new_lease, flow_among, drop_in_table, request_in_table}
 use Rattle.grant_machine_parts.specs.declared.placing.Placement.{Placement}
 use Rattle.grant_machine_parts.specs.declared.settings.CutSettings.{CutSettings}
-use Rattle.grant_machine_parts.specs.Cutting.{is_grant_of, still_waiting, fill, fill_refusal, span_of, end_of, table_after}
+use Rattle.grant_machine_parts.specs.Cutting.{is_grant_of, still_waiting, fill, fill_refusal, span_of, end_of}
+use Rattle.grant_machine_parts.specs.Cutting.{table_after}
 use Rattle.flow_state.proofs.Callers.{Has, has_pushed, has_map, has_filter, found_has}
 use Rattle.flow_state.proofs.Callers.{eqb_same, put_found, put_others}
-use Rattle.flow_state.proofs.Callers.{IsWell, has_inserted, change_is_well, flow_is_well, drop_is_well, request_is_well, is_asked, asked, asked_same}
+use Rattle.flow_state.proofs.Callers.{IsWell, has_inserted, change_is_well, flow_is_well, drop_is_well, request_is_well}
+use Rattle.flow_state.proofs.Callers.{is_asked, asked, asked_same}
 use Rattle.grant_machine_parts.proofs.Callers.{is_cut, flow_from, cut_is_well}
 use Rattle.grant_machine.proofs.Reached.{Kept}
 use Rattle.grant_machine.proofs.Leases.{IsNew, is_new}

@@ -1,5 +1,6 @@
 -- The rows after a MAP is closed, and the elements of its body.
-use Rattle.std.proofs.Common.{◌≡◌, ℕ, ◌+◌, ◌<◌, ◌≤◌, Bool, true, false, cond, not, ◌&&◌, max, List, [], ◌∷◌, ◌++◌, map, filter, length, Option, Some, None, refl, sym, ap, subst, ◌∙◌, arith, eqb, leb, ltb}
+use Rattle.std.proofs.Common.{◌≡◌, ℕ, ◌+◌, ◌<◌, ◌≤◌, Bool, true, false, cond, not, ◌&&◌, max, List, [], ◌∷◌, ◌++◌, map}
+use Rattle.std.proofs.Common.{filter, length, Option, Some, None, refl, sym, ap, subst, ◌∙◌, arith, eqb, leb, ltb}
 use Rattle.std.specs.List.{find, list_any, filter_map, range_with_len, AllByRecursion, AllZip}
 use Rattle.std.specs.Option.{option_map_or}
 use Rattle.std.proofs.lemmas.Bool.{eqb-true, false_from_ne_true, le-leb}
@@ -14,12 +15,15 @@ use Rattle.flow_state.specs.declared.flow.Flow.{Flow}
 use Rattle.flow_state.specs.declared.flow.FlowKind.{FlowKind}
 use Rattle.flow_state.specs.declared.flow.Waiting.{Waiting}
 use Rattle.flow_state.specs.Limits.{last_time, most_minislots, due_index, IsDueTime}
-use Rattle.flow_state.specs.Rows.{Rows, Table, FlowRow, is_table, table_of, change_table, is_flow, flow_of, last_in, last_of, is_ended, has_ended}
+use Rattle.flow_state.specs.Rows.{Rows, Table, FlowRow, is_table, table_of, change_table, is_flow, flow_of, last_in}
+use Rattle.flow_state.specs.Rows.{last_of, is_ended, has_ended}
 use Rattle.flow_state.specs.Changes.{waiting_of, close_table, told_due, TellsDue, finish_table, with_cut_finished}
 use Rattle.grant_machine.specs.declared.cut.Draft.{Draft}
 use Rattle.grant_machine_parts.specs.declared.placing.Placement.{Placement}
 use Rattle.grant_machine_parts.specs.declared.settings.CutSettings.{CutSettings}
-use Rattle.grant_machine_parts.specs.Cutting.{Filled, fill, fill_refusal, span_of, ack_of, end_of, in_order, still_waiting, is_grant_of, flows_left, requests_left, table_after, flows_served}
+use Rattle.grant_machine_parts.specs.Cutting.{Filled, fill, fill_refusal, span_of, ack_of, end_of, in_order}
+use Rattle.grant_machine_parts.specs.Cutting.{still_waiting, is_grant_of, flows_left, requests_left, table_after}
+use Rattle.grant_machine_parts.specs.Cutting.{flows_served}
 use Rattle.grant_machine_parts.specs.Drawing.{begins_at, null_element, pending_element, elements_of, head_of}
 use Rattle.grant_machine.specs.Runs.{IsReached}
 use Rattle.grant_machine_parts.specs.Lent.{IsLent, IsUnicast}

@@ -1,5 +1,6 @@
 -- The UCD Counts that MAPs have, and those that a channel is given one after another.
-use Rattle.std.proofs.Common.{◌≡◌, ◌⊎◌, ℕ, zero, suc, ◌<◌, Bool, true, false, cond, not, ◌&&◌, List, [], ◌∷◌, ◌++◌, Option, Some, None, refl, sym, ap, subst, ◌∙◌, arith, inl, inr, eqb, is_some, slice_get}
+use Rattle.std.proofs.Common.{◌≡◌, ◌⊎◌, ℕ, zero, suc, ◌<◌, Bool, true, false, cond, not, ◌&&◌, List, [], ◌∷◌, ◌++◌}
+use Rattle.std.proofs.Common.{Option, Some, None, refl, sym, ap, subst, ◌∙◌, arith, inl, inr, eqb, is_some, slice_get}
 use Rattle.std.proofs.lemmas.Option.{same_Some}
 use Rattle.std.proofs.lemmas.Bool.{eqb-true, eqb-false, and_parts, not-false}
 use Rattle.map_body.specs.Body.{Body}
@@ -13,7 +14,8 @@ use Rattle.flow_state.specs.declared.refusal.Refusal.TheVariants.{BadValue, Chan
 use Rattle.flow_state.specs.Limits.{is_good_channel, are_good_settings}
 use Rattle.flow_state.specs.Rows.{Rows, Table, is_table, table_of, change_table, lease_of}
 use Rattle.flow_state.specs.Refusals.{next_count, is_same_phy, is_good_count, set_channel_refusal, table_change_refusal}
-use Rattle.flow_state.specs.Changes.{new_table, change_in_table, flow_among, flow_in_table, drop_in_table, request_in_table}
+use Rattle.flow_state.specs.Changes.{new_table, change_in_table, flow_among, flow_in_table, drop_in_table}
+use Rattle.flow_state.specs.Changes.{request_in_table}
 use Rattle.grant_machine.specs.declared.command.Command.{Command}
 use Rattle.grant_machine.specs.declared.command.Command.TheVariants as commands
 use Rattle.grant_machine.specs.declared.output.Output.{Output}
@@ -23,7 +25,8 @@ use Rattle.grant_machine_parts.specs.Cutting.{fill, table_after}
 use Rattle.grant_machine.specs.Steps.{Step, cut_settings, step, step_on, refusal_of, accepted, cut_on}
 use Rattle.grant_machine.specs.Runs.{outputs_from}
 use Rattle.grant_machine.specs.Counts.{IsCountAt, IsLatestCount, CountsAreTold, CountsStep}
-use Rattle.flow_state.proofs.Callers.{KeepsId, changed, find_added, find_changed, find_pushed, flow_keeps_id, found_before, is_found, passes_on, refusal_there, some_is, there}
+use Rattle.flow_state.proofs.Callers.{KeepsId, changed, find_added, find_changed, find_pushed, flow_keeps_id}
+use Rattle.flow_state.proofs.Callers.{found_before, is_found, passes_on, refusal_there, some_is, there}
 use Rattle.grant_machine.proofs.Turns.{found_changed}
 use Rattle.grant_machine.proofs.Reached.{Stands, AllWell, none_well, well_step}
 use Rattle.grant_machine.proofs.Cuts.{cut_of_map}

@@ -10,8 +10,10 @@ use Rattle.grant_machine_parts.specs.declared.placing.Placement.{Placement}
 use Rattle.grant_machine_parts.specs.declared.settings.CutSettings.{CutSettings}
 use Rattle.grant_machine_parts.specs.Cutting.{Filled, fill, fill_refusal, table_after, span_of}
 use Rattle.grant_machine_parts.specs.Drawing.{bytes_of}
-use Rattle.grant_machine.specs.Steps.{cut_settings, cut_command, step, step_on, refusal_of, accepted, cut_on, map_output}
-use Rattle.grant_machine.specs.Runs.{Grant, grant_of, grants_in, grants_on, step_grants, step_grants_on, accepted_grants}
+use Rattle.grant_machine.specs.Steps.{cut_settings, cut_command, step, step_on, refusal_of, accepted, cut_on}
+use Rattle.grant_machine.specs.Steps.{map_output}
+use Rattle.grant_machine.specs.Runs.{Grant, grant_of, grants_in, grants_on, step_grants, step_grants_on}
+use Rattle.grant_machine.specs.Runs.{accepted_grants}
 use Rattle.flow_state.proofs.Callers.{Has, has_map, refusal_there}
 use Rattle.grant_machine.proofs.Turns.{found_changed}
 

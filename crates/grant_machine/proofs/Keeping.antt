@@ -1,5 +1,6 @@
 -- What each cut keeps, and which back-offs its MAP tells.
-use Rattle.std.proofs.Common.{◌≡◌, ℕ, zero, suc, ◌+◌, ◌-◌, ◌<◌, ◌≤◌, true, false, cond, min, List, [], ◌∷◌, map, filter, length, take, Some, None, slice_get, refl, sym, ap, subst, ◌∙◌, arith}
+use Rattle.std.proofs.Common.{◌≡◌, ℕ, zero, suc, ◌+◌, ◌-◌, ◌<◌, ◌≤◌, true, false, cond, min, List, [], ◌∷◌, map, filter}
+use Rattle.std.proofs.Common.{length, take, Some, None, slice_get, refl, sym, ap, subst, ◌∙◌, arith}
 use Rattle.std.specs.List.{sum_by, range_with_len}
 use Rattle.std.specs.List.Sorted.{IsStrictlyIncreasing}
 use Rattle.std.proofs.lemmas.Bool.{eqb-true, and_parts, false_from_ne_true}
@@ -13,17 +14,20 @@ use Rattle.grant_machine_parts.specs.declared.settings.CutSettings.{CutSettings}
 use Rattle.grant_machine_parts.specs.declared.placing.Cause.TheVariants.{Sent}
 use Rattle.grant_machine_parts.specs.declared.placing.Placement.{Placement}
 use Rattle.grant_machine_parts.specs.Placing.{is_window, is_free}
-use Rattle.grant_machine_parts.specs.Cutting.{Filled, fill, fill_refusal, is_own, told_backoff, span_of, table_after, placement_for}
+use Rattle.grant_machine_parts.specs.Cutting.{Filled, fill, fill_refusal, is_own, told_backoff, span_of, table_after}
+use Rattle.grant_machine_parts.specs.Cutting.{placement_for}
 use Rattle.grant_machine_parts.specs.Drawing.{body_of, bytes_of}
 use Rattle.grant_machine.specs.declared.command.Command.{Command}
 use Rattle.grant_machine.specs.declared.output.Output.{Output}
 use Rattle.grant_machine.specs.declared.output.Output.TheVariants as outputs
 use Rattle.grant_machine.specs.Steps.{cut_command, step}
 use Rattle.grant_machine.specs.Runs.{outputs_from, rows_from, grant_of, grants_in, step_grants}
-use Rattle.grant_machine.specs.CutLaws.{IsCutAt, rows_before, cut_grants, window_minislots, IsFreeCell, MinislotsAreKept, NothingIsHeldBack, IsToldBackoff, BackoffsAreTold}
+use Rattle.grant_machine.specs.CutLaws.{IsCutAt, rows_before, cut_grants, window_minislots, IsFreeCell}
+use Rattle.grant_machine.specs.CutLaws.{MinislotsAreKept, NothingIsHeldBack, IsToldBackoff, BackoffsAreTold}
 use Rattle.flow_state.proofs.Callers.{Has, IsWell, all_has, at_contains, has_filter, map_has, place_of, some_is}
 use Rattle.flow_state.proofs.Members.{range_has}
-use Rattle.grant_machine_parts.proofs.Callers.{cell_of_free, cut_most, cut_placed, due_minislots, free_is_none, in_turn, kept_free, pending, pending_plain}
+use Rattle.grant_machine_parts.proofs.Callers.{cell_of_free, cut_most, cut_placed, due_minislots, free_is_none, in_turn}
+use Rattle.grant_machine_parts.proofs.Callers.{kept_free, pending, pending_plain}
 use Rattle.grant_machine.proofs.Cuts.{cut_of_map}
 use Rattle.grant_machine.proofs.Reached.{AllWell, none_well, well_step, rows_keep}
 use Rattle.grant_machine.proofs.Tellings.{drawn_body}

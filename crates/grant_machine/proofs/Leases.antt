@@ -1,5 +1,6 @@
 -- The leases of one SID lie apart: a new one begins behind the last minislots of those before it.
-use Rattle.std.proofs.Common.{◌≡◌, ◌⊎◌, ℕ, zero, suc, ◌<◌, ◌≤◌, Bool, true, false, List, [], ◌∷◌, Option, Some, None, refl, sym, ap, subst, ◌∙◌, arith, slice_get, eqb, ltb, inl, inr}
+use Rattle.std.proofs.Common.{◌≡◌, ◌⊎◌, ℕ, zero, suc, ◌<◌, ◌≤◌, Bool, true, false, List, [], ◌∷◌, Option, Some, None}
+use Rattle.std.proofs.Common.{refl, sym, ap, subst, ◌∙◌, arith, slice_get, eqb, ltb, inl, inr}
 use Rattle.std.proofs.lemmas.Option.{same_Some}
 use Rattle.std.specs.List.{find}
 use Rattle.std.specs.Prelude.{unwrap_or}
@@ -9,8 +10,10 @@ use Rattle.flow_state.specs.declared.refusal.Refusal.{Refusal}
 use Rattle.flow_state.specs.declared.flow.Lease.{Lease}
 use Rattle.flow_state.specs.Rows.{Rows, Table, table_of, lease_of, is_of_sid, free_sid, first_of, put_lease}
 use Rattle.flow_state.specs.Refusals.{table_flow_refusal, on_table}
-use Rattle.flow_state.specs.Changes.{new_lease, add_to_table, flow_among, flow_in_table, lease_among, lease_for, lease_on, lease_given, with_flow}
-use Rattle.flow_state.proofs.Callers.{Has, has_between, found_has, lease_is, put_found, put_others, over_before, is_added, unwrap_some}
+use Rattle.flow_state.specs.Changes.{new_lease, add_to_table, flow_among, flow_in_table, lease_among, lease_for}
+use Rattle.flow_state.specs.Changes.{lease_on, lease_given, with_flow}
+use Rattle.flow_state.proofs.Callers.{Has, has_between, found_has, lease_is, put_found, put_others, over_before}
+use Rattle.flow_state.proofs.Callers.{is_added, unwrap_some}
 use Rattle.flow_state.proofs.Callers.{refusal_there, flow_keeps_id, there, some_is}
 use Rattle.grant_machine.specs.declared.command.Command.{Command}
 use Rattle.grant_machine.specs.declared.command.Command.TheVariants as commands

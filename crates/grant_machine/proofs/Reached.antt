@@ -1,5 +1,6 @@
 -- What holds of every table that commands reach.
-use Rattle.std.proofs.Common.{◌≡◌, ℕ, true, cond, not, List, [], ◌∷◌, Option, Some, None, refl, subst, inl, inr, is_some}
+use Rattle.std.proofs.Common.{◌≡◌, ℕ, true, cond, not, List, [], ◌∷◌, Option, Some, None, refl, subst, inl, inr}
+use Rattle.std.proofs.Common.{is_some}
 use Rattle.std.specs.List.{AllByRecursion}
 use Rattle.std.proofs.lemmas.Bool.{not-false}
 use Rattle.flow_state.specs.declared.channel.Channel.{Channel}
@@ -19,7 +20,8 @@ use Rattle.grant_machine_parts.specs.Cutting.{fill, fill_refusal, table_after}
 use Rattle.grant_machine.specs.Steps.{cut_settings, step, refusal_of}
 use Rattle.grant_machine.specs.Runs.{rows_from, IsReached}
 use Rattle.grant_machine.specs.Fits.{FitsChannel, FitsCommand}
-use Rattle.flow_state.proofs.Callers.{IsWell, new_is_well, change_is_well, flow_is_well, drop_is_well, request_is_well, passes_on, has_all, found_has}
+use Rattle.flow_state.proofs.Callers.{IsWell, new_is_well, change_is_well, flow_is_well, drop_is_well, request_is_well}
+use Rattle.flow_state.proofs.Callers.{passes_on, has_all, found_has}
 use Rattle.grant_machine_parts.proofs.Callers.{cut_is_well}
 use Rattle.grant_machine.proofs.Turns.{made, Changes, after, before}
 

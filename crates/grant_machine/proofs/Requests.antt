@@ -1,5 +1,7 @@
 -- A request is accepted once at most, and granted once at most, whole.
-use Rattle.std.proofs.Common.{◌≡◌, ◌⊎◌, ℕ, zero, suc, ◌+◌, ◌<◌, ◌≤◌, Bool, true, false, cond, not, ◌&&◌, List, [], ◌∷◌, ◌++◌, map, filter, length, Option, Some, None, refl, sym, ap, subst, ◌∙◌, arith, inl, inr, eqb, slice_get, length-append}
+use Rattle.std.proofs.Common.{◌≡◌, ◌⊎◌, ℕ, zero, suc, ◌+◌, ◌<◌, ◌≤◌, Bool, true, false, cond, not, ◌&&◌, List, [], ◌∷◌}
+use Rattle.std.proofs.Common.{◌++◌, map, filter, length, Option, Some, None, refl, sym, ap, subst, ◌∙◌, arith, inl, inr}
+use Rattle.std.proofs.Common.{eqb, slice_get, length-append}
 use Rattle.std.proofs.lemmas.Option.{same_Some}
 use Rattle.std.specs.List.{find}
 use Rattle.std.proofs.lemmas.Bool.{eqb-true, and_parts, and_right, false_from_ne_true}
@@ -19,11 +21,14 @@ use Rattle.grant_machine_parts.specs.declared.placing.Cause.{Cause}
 use Rattle.grant_machine_parts.specs.declared.placing.Placement.{Placement}
 use Rattle.grant_machine_parts.specs.declared.placing.Cause.TheVariants.{Window, Sent}
 use Rattle.grant_machine_parts.specs.declared.settings.CutSettings.{CutSettings}
-use Rattle.grant_machine_parts.specs.Cutting.{span_of, fill_windows, in_order, placement_at, placement_for, request_fit, place_requests, is_cause_sent, is_grant_of, Filled, fill, fill_span, table_after}
+use Rattle.grant_machine_parts.specs.Cutting.{span_of, fill_windows, in_order, placement_at, placement_for, request_fit}
+use Rattle.grant_machine_parts.specs.Cutting.{place_requests, is_cause_sent, is_grant_of, Filled, fill, fill_span}
+use Rattle.grant_machine_parts.specs.Cutting.{table_after}
 use Rattle.grant_machine.specs.Steps.{cut_settings, step, step_on, accepted}
 use Rattle.grant_machine.specs.Runs.{outputs_from, grants_from, Grant, grant_of, step_grants}
 use Rattle.grant_machine.specs.Laws.{RequestsAreGrantedOnce, IsGrantedAt}
-use Rattle.flow_state.proofs.Callers.{Has, has_at, has_either, has_pushed, has_filter, filter_has, filter_empty, has_any}
+use Rattle.flow_state.proofs.Callers.{Has, has_at, has_either, has_pushed, has_filter, filter_has, filter_empty}
+use Rattle.flow_state.proofs.Callers.{has_any}
 use Rattle.flow_state.proofs.Callers.{filter_append}
 use Rattle.flow_state.proofs.Callers.{some_is, eqb_same, refusal_there, there}
 use Rattle.grant_machine_parts.proofs.Callers.{in_order_fewer}
@@ -32,7 +37,8 @@ use Rattle.grant_machine_parts.proofs.Callers.{windows_keep, IsFor, is_cut, cut_
 use Rattle.grant_machine.proofs.Turns.{made, Changes, before, found_changed}
 use Rattle.grant_machine.proofs.Reached.{Stands, stands_step, AllWell, none_well, well_step}
 use Rattle.grant_machine.proofs.Cuts.{IsGrantStep, cut_of_grant}
-use Rattle.grant_machine.proofs.Asked.{WasAsked, IsGone, newer, sent_after, waits_before, asked_kept, asked_now, gone_kept}
+use Rattle.grant_machine.proofs.Asked.{WasAsked, IsGone, newer, sent_after, waits_before, asked_kept, asked_now}
+use Rattle.grant_machine.proofs.Asked.{gone_kept}
 
 -- ---- accepted once
 

@@ -1,5 +1,6 @@
 -- What modems can rely on in the outputs of any list of commands.
-use Rattle.std.proofs.Common.{◌≡◌, ℕ, zero, suc, ◌+◌, ◌-◌, ◌<◌, ◌≤◌, ◌==◌, true, false, cond, List, [], ◌∷◌, ◌++◌, map, length, Option, Some, None, refl, sym, ap, subst, ◌∙◌, arith, inl, inr, slice_get}
+use Rattle.std.proofs.Common.{◌≡◌, ℕ, zero, suc, ◌+◌, ◌-◌, ◌<◌, ◌≤◌, ◌==◌, true, false, cond, List, [], ◌∷◌, ◌++◌, map}
+use Rattle.std.proofs.Common.{length, Option, Some, None, refl, sym, ap, subst, ◌∙◌, arith, inl, inr, slice_get}
 use Rattle.std.proofs.lemmas.Option.{same_Some}
 use Rattle.std.specs.List.{AllByRecursion, cons_option, filter_map, range_with_len}
 use Rattle.std.proofs.lemmas.Bool.{eqb-true}
@@ -18,13 +19,15 @@ use Rattle.grant_machine_parts.specs.declared.placing.Placement.{Placement}
 use Rattle.grant_machine_parts.specs.declared.settings.CutSettings.{CutSettings}
 use Rattle.grant_machine_parts.specs.Cutting.{Filled, fill, fill_refusal, span_of}
 use Rattle.grant_machine_parts.specs.Placing.{holder, holds}
-use Rattle.grant_machine_parts.specs.Drawing.{beginning, begins_at, body_of, bytes_of, free_element, null_element, placed_element}
+use Rattle.grant_machine_parts.specs.Drawing.{beginning, begins_at, body_of, bytes_of, free_element, null_element}
+use Rattle.grant_machine_parts.specs.Drawing.{placed_element}
 use Rattle.grant_machine.specs.Steps.{step}
 use Rattle.grant_machine.specs.Runs.{outputs_from, outputs_of, rows_from, IsReached}
 use Rattle.grant_machine.specs.Fits.{FitsCommand}
 use Rattle.grant_machine.specs.Owner.{IsMapOf, IsGiven}
 use Rattle.grant_machine.specs.Maintenance.{OpeningsHaveNoOwner}
-use Rattle.grant_machine.specs.Laws.{IsLeasedAt, OutputsGoOn, MapsAreBodies, MapsAreBodiesFrom, SharedMapsAreOne, SidsAreUnicast, OwnersAreOne}
+use Rattle.grant_machine.specs.Laws.{IsLeasedAt, OutputsGoOn, MapsAreBodies, MapsAreBodiesFrom, SharedMapsAreOne}
+use Rattle.grant_machine.specs.Laws.{SidsAreUnicast, OwnersAreOne}
 use Rattle.flow_state.proofs.Callers.{Has, contains_at, found_has, unfound}
 use Rattle.grant_machine.proofs.Maps.{maps_are_disjoint}
 use Rattle.flow_state.proofs.Callers.{is_found}
@@ -33,7 +36,8 @@ use Rattle.flow_state.proofs.Callers.{IsWell}
 use Rattle.grant_machine_parts.proofs.Callers.{is_cut}
 use Rattle.grant_machine_parts.proofs.Callers.{count, holds_from, null_at, none_before}
 use Rattle.grant_machine_parts.proofs.Callers.{pending, cut_placed, cut_most, pending_plain, cut_written}
-use Rattle.grant_machine.proofs.Reached.{At, AllWell, none_well, well_step, rows_keep, reached_is_well, FitsTable, none_fit, fit_rows, reached_fits}
+use Rattle.grant_machine.proofs.Reached.{At, AllWell, none_well, well_step, rows_keep, reached_is_well, FitsTable}
+use Rattle.grant_machine.proofs.Reached.{none_fit, fit_rows, reached_fits}
 use Rattle.grant_machine.proofs.Cuts.{map_parts, cut_of_map}
 use Rattle.grant_machine.proofs.Tellings.{drawn_body, cut_cell}
 

@@ -1,5 +1,6 @@
 -- What a filled MAP is made of, and its flows as they are lent.
-use Rattle.std.proofs.Common.{◌≡◌, ℕ, ◌+◌, ◌-◌, ◌/◌, ◌≤◌, Bool, true, false, cond, ◌&&◌, ltb, inl, inr, List, [], ◌∷◌, ◌++◌, map, filter, eqb, Option, Some, None, refl, sym, ap, subst, ◌∙◌}
+use Rattle.std.proofs.Common.{◌≡◌, ℕ, ◌+◌, ◌-◌, ◌/◌, ◌≤◌, Bool, true, false, cond, ◌&&◌, ltb, inl, inr, List, [], ◌∷◌}
+use Rattle.std.proofs.Common.{◌++◌, map, filter, eqb, Option, Some, None, refl, sym, ap, subst, ◌∙◌}
 use Rattle.std.specs.List.{AllByRecursion, AllZip, flat_map}
 use Rattle.std.specs.Option.{option_map, option_map_or}
 use Rattle.std.proofs.lemmas.Bool.{and_parts}
@@ -16,18 +17,22 @@ use Rattle.grant_machine_parts.specs.declared.services.Service.{Service}
 use Rattle.grant_machine_parts.specs.declared.services.Service.TheVariants.{Grants, Polls, Maintenance}
 use Rattle.grant_machine_parts.specs.declared.placing.Placement.{Placement}
 use Rattle.grant_machine_parts.specs.declared.settings.CutSettings.{CutSettings}
-use Rattle.grant_machine_parts.specs.Cutting.{kind_priority, flow_priority, priority_of, Passed, Ran, pass, in_order, place_requests, fill_span, fill_grants, fill_polls, fill_windows, due_at, end_of, run_due_times, run_flow, with_first, flows_served}
+use Rattle.grant_machine_parts.specs.Cutting.{kind_priority, flow_priority, priority_of, Passed, Ran, pass, in_order}
+use Rattle.grant_machine_parts.specs.Cutting.{place_requests, fill_span, fill_grants, fill_polls, fill_windows, due_at}
+use Rattle.grant_machine_parts.specs.Cutting.{end_of, run_due_times, run_flow, with_first, flows_served}
 use Rattle.grant_machine_parts.specs.declared.due_times.Periodic.{Periodic}
 use Rattle.grant_machine_parts.specs.Filling.{PartMap}
 use Rattle.grant_machine_parts.specs.Lent.{IsLent, IsUnicast, given_to}
 use Rattle.grant_machine_parts.specs.Ranks.{of_priority, by_priority, requests_in, IsOfLast}
 use Rattle.grant_machine_parts.specs.declared.waiting.Ranked.{Ranked}
 use Rattle.grant_machine.specs.CutRows.{IsOfTable, IsReachedTable, was_due, due_ones, rank_in}
-use Rattle.flow_state.proofs.Callers.{Has, all_has, has_all, map_has, has_map, has_filter, has_flat_map, flow_found, filter_alike, number_is, some_interval}
+use Rattle.flow_state.proofs.Callers.{Has, all_has, has_all, map_has, has_map, has_filter, has_flat_map, flow_found}
+use Rattle.flow_state.proofs.Callers.{filter_alike, number_is, some_interval}
 use Rattle.flow_state.proofs.Callers.{IsWell, IsWellFlow}
 use Rattle.flow_state.specs.View.{flow_view}
 use Rattle.grant_machine.proofs.Reached.{reached_is_well}
-use Rattle.grant_machine_parts.proofs.Callers.{Asks, due_is, grants_of, in_order_has, maintenance_of, polls_of, timed, zip_twice}
+use Rattle.grant_machine_parts.proofs.Callers.{Asks, due_is, grants_of, in_order_has, maintenance_of, polls_of, timed}
+use Rattle.grant_machine_parts.proofs.Callers.{zip_twice}
 use Rattle.grant_machine.proofs.Standing.{IsIdle, idle, reached_idle}
 
 -- the number of a due time is its own

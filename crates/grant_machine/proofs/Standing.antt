@@ -1,5 +1,6 @@
 -- What is true of the rows that commands reach, beside what is true of each table: each channel has one table, and a best-effort flow stays at due time number 0.
-use Rattle.std.proofs.Common.{◌≡◌, ℕ, Bool, true, false, cond, not, List, [], ◌∷◌, map, filter, Option, Some, None, refl, sym, ap, subst, ◌∙◌, inl, inr, is_some, eqb}
+use Rattle.std.proofs.Common.{◌≡◌, ℕ, Bool, true, false, cond, not, List, [], ◌∷◌, map, filter, Option, Some, None}
+use Rattle.std.proofs.Common.{refl, sym, ap, subst, ◌∙◌, inl, inr, is_some, eqb}
 use Rattle.std.proofs.lemmas.Bool.{eqb-true}
 use Rattle.std.specs.List.{AllByRecursion}
 use Rattle.std.specs.Prelude.{unwrap_or}
@@ -9,13 +10,15 @@ use Rattle.flow_state.specs.declared.flow.FlowKind.{FlowKind}
 use Rattle.flow_state.specs.declared.flow.FlowKind.TheVariants.{BestEffort, Ugs, Poll, Station, Initial}
 use Rattle.flow_state.specs.declared.refusal.Refusal.TheVariants.{BadValue, ChannelThere}
 use Rattle.flow_state.specs.Limits.{is_good_channel, is_timed}
-use Rattle.flow_state.specs.Rows.{Rows, Table, FlowRow, table_of, change_table, is_flow, is_ended, free_sid, insert_flow}
+use Rattle.flow_state.specs.Rows.{Rows, Table, FlowRow, table_of, change_table, is_flow, is_ended, free_sid}
+use Rattle.flow_state.specs.Rows.{insert_flow}
 use Rattle.flow_state.specs.Changes.{new_table, new_flow, new_lease}
 use Rattle.grant_machine.specs.declared.command.Command.{Command}
 use Rattle.grant_machine.specs.declared.command.Command.TheVariants as commands
 use Rattle.grant_machine_parts.specs.declared.placing.Placement.{Placement}
 use Rattle.grant_machine_parts.specs.declared.due_times.Periodic.{Periodic}
-use Rattle.grant_machine_parts.specs.Cutting.{grants_of_flow, polls_of_flow, maintenance_of_flow, fill_grants, fill_polls, run_flow, pass, span_of, end_of, flows_served}
+use Rattle.grant_machine_parts.specs.Cutting.{grants_of_flow, polls_of_flow, maintenance_of_flow, fill_grants}
+use Rattle.grant_machine_parts.specs.Cutting.{fill_polls, run_flow, pass, span_of, end_of, flows_served}
 use Rattle.grant_machine.specs.Steps.{step, refusal_of}
 use Rattle.grant_machine.specs.Runs.{step_grants, IsReached}
 pub use Rattle.flow_state.specs.Firm.{idle, IsIdle, Apart}

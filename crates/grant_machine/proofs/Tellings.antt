@@ -1,5 +1,6 @@
 -- Each grant is told by the MAP that placed it, and a SID's minislots are in its grants.
-use Rattle.std.proofs.Common.{◌≡◌, ◌≢◌, ◌⊎◌, ℕ, zero, suc, ◌+◌, ◌-◌, ◌<◌, ◌≤◌, ◌^◌, Bool, true, false, cond, eqb, List, [], ◌∷◌, ◌++◌, map, Some, None, refl, sym, ap, subst, ◌∙◌, arith, inl, inr, slice_get}
+use Rattle.std.proofs.Common.{◌≡◌, ◌≢◌, ◌⊎◌, ℕ, zero, suc, ◌+◌, ◌-◌, ◌<◌, ◌≤◌, ◌^◌, Bool, true, false, cond, eqb, List}
+use Rattle.std.proofs.Common.{[], ◌∷◌, ◌++◌, map, Some, None, refl, sym, ap, subst, ◌∙◌, arith, inl, inr, slice_get}
 use Rattle.std.proofs.lemmas.Option.{same_Some}
 use Rattle.std.specs.List.{AllByRecursion}
 use Rattle.map_body.specs.declared.element.Element.{Element}
@@ -35,12 +36,14 @@ use Rattle.grant_machine.specs.Maintenance.{IsStation, IsInitial, IsOfKind, Main
 use Rattle.flow_state.proofs.Callers.{Has, has_at, place_of, has_left, has_right, has_either, has_map, map_has, unfound}
 use Rattle.flow_state.proofs.Callers.{IsWell}
 use Rattle.grant_machine_parts.proofs.Callers.{it_holds, holds_from, holds_below, cell_of_placement, cell_tells}
-use Rattle.grant_machine_parts.proofs.Callers.{requested_high, unsolicited_high, pending, cut_placed, cut_most, pending_plain, cut_written}
+use Rattle.grant_machine_parts.proofs.Callers.{requested_high, unsolicited_high, pending, cut_placed, cut_most}
+use Rattle.grant_machine_parts.proofs.Callers.{pending_plain, cut_written}
 use Rattle.grant_machine.proofs.Reached.{AllWell, none_well, well_step, AllFit, none_fit, fit_step}
 use Rattle.grant_machine.proofs.Cuts.{IsMapStep, cut_of_grant, cut_of_map}
 use Rattle.grant_machine.proofs.Maps.{IsPast, step_tells, later_begins, later_granted, grant_ends}
 use Rattle.grant_machine.proofs.Leases.{AllLeadBack, back_step}
-use Rattle.grant_machine.proofs.Timely.{IsUseBy, IsServed, IsGranted, grant_at, served_now, served_later, granted_by, flow_of_grant}
+use Rattle.grant_machine.proofs.Timely.{IsUseBy, IsServed, IsGranted, grant_at, served_now, served_later, granted_by}
+use Rattle.grant_machine.proofs.Timely.{flow_of_grant}
 
 module _ where
   -- ---- each grant is told

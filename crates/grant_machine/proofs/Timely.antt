@@ -1,5 +1,6 @@
 -- Each grant lies within the lease of a flow that was added, and what isn't granted to a request is at a due time of it.
-use Rattle.std.proofs.Common.{◌≡◌, ◌⊎◌, ℕ, zero, suc, ◌<◌, ◌≤◌, true, false, cond, not, List, [], ◌∷◌, Option, Some, None, refl, sym, ap, subst, ◌∙◌, arith, inl, inr, slice_get}
+use Rattle.std.proofs.Common.{◌≡◌, ◌⊎◌, ℕ, zero, suc, ◌<◌, ◌≤◌, true, false, cond, not, List, [], ◌∷◌, Option, Some}
+use Rattle.std.proofs.Common.{None, refl, sym, ap, subst, ◌∙◌, arith, inl, inr, slice_get}
 use Rattle.std.specs.List.{find}
 use Rattle.std.proofs.lemmas.Bool.{eqb-true}
 use Rattle.std.specs.Prelude.{unwrap_or}
@@ -9,7 +10,8 @@ use Rattle.flow_state.specs.declared.channel.Channel.{Channel}
 use Rattle.flow_state.specs.declared.flow.FlowKind.{FlowKind}
 use Rattle.flow_state.specs.declared.refusal.Refusal.{Refusal}
 use Rattle.flow_state.specs.declared.flow.Lease.{Lease}
-use Rattle.flow_state.specs.Rows.{Rows, Table, FlowRow, is_flow, is_of_sid, table_of, lease_of, free_sid, first_of, lease_in}
+use Rattle.flow_state.specs.Rows.{Rows, Table, FlowRow, is_flow, is_of_sid, table_of, lease_of, free_sid, first_of}
+use Rattle.flow_state.specs.Rows.{lease_in}
 use Rattle.flow_state.specs.Refusals.{table_flow_refusal}
 use Rattle.flow_state.specs.Changes.{new_lease, new_flow, lease_among, lease_on, flow_among}
 use Rattle.grant_machine.specs.declared.command.Command.{Command}
@@ -24,7 +26,8 @@ use Rattle.grant_machine_parts.specs.declared.settings.CutSettings.{CutSettings}
 use Rattle.grant_machine_parts.specs.Cutting.{grant_iuc, unsolicited_iuc, Filled, fill, fill_refusal, span_of}
 use Rattle.grant_machine.specs.Steps.{cut_settings, step, step_on, accepted, lease_output}
 use Rattle.grant_machine.specs.Runs.{outputs_from, outputs_of, grants_from, grants_of, Grant, grant_of, step_grants}
-use Rattle.grant_machine.specs.Laws.{LeasedSid, IsWithin, IsServedAt, IsDueUseOf, IsOfFlow, OtherGrantsAreDue, GrantsAreLeased}
+use Rattle.grant_machine.specs.Laws.{LeasedSid, IsWithin, IsServedAt, IsDueUseOf, IsOfFlow, OtherGrantsAreDue}
+use Rattle.grant_machine.specs.Laws.{GrantsAreLeased}
 use Rattle.flow_state.proofs.Callers.{Has, at_contains, has_at, has_either, has_map, has_filter, found_has}
 use Rattle.flow_state.proofs.Callers.{some_is}
 use Rattle.flow_state.proofs.Callers.{IsWell, has_inserted, asked, one_flow, flow_lease}

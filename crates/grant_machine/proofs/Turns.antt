@@ -1,5 +1,6 @@
 -- Where the tables after a step come from: the tables before it, or the command.
-use Rattle.std.proofs.Common.{◌≡◌, ◌≢◌, ◌⊎◌, ℕ, true, false, cond, List, [], ◌∷◌, ◌++◌, Option, Some, None, refl, sym, ap, subst, ◌∙◌, inl, inr}
+use Rattle.std.proofs.Common.{◌≡◌, ◌≢◌, ◌⊎◌, ℕ, true, false, cond, List, [], ◌∷◌, ◌++◌, Option, Some, None, refl, sym}
+use Rattle.std.proofs.Common.{ap, subst, ◌∙◌, inl, inr}
 use Rattle.flow_state.specs.declared.channel.Channel.{Channel}
 use Rattle.flow_state.specs.declared.refusal.Refusal.{Refusal}
 use Rattle.flow_state.specs.Rows.{Rows, Table, is_table, table_of, change_table, lease_of}
@@ -11,7 +12,8 @@ use Rattle.grant_machine_parts.specs.declared.settings.CutSettings.{CutSettings}
 use Rattle.grant_machine_parts.specs.Cutting.{fill, fill_refusal, table_after}
 use Rattle.grant_machine.specs.Steps.{cut_settings, cut_command, step, step_on, refusal_of, accepted, cut_on}
 use Rattle.grant_machine.specs.Runs.{Grant, grant_of, grants_on, accepted_grants, step_grants, step_grants_on}
-use Rattle.flow_state.proofs.Callers.{Has, has_map, find_changed, find_added, is_found, some_is, changed, KeepsId, at_same, refusal_there, flow_keeps_id, find_pushed, found_before}
+use Rattle.flow_state.proofs.Callers.{Has, has_map, find_changed, find_added, is_found, some_is, changed, KeepsId}
+use Rattle.flow_state.proofs.Callers.{at_same, refusal_there, flow_keeps_id, find_pushed, found_before}
 
 -- what a command makes of its channel's table
 abbrev pub made : Command → Table → Table

@@ -1,5 +1,6 @@
 -- What holds of every cut by what it asks: the minislots that it keeps, and its back-offs.
-use Rattle.std.specs.Prelude.{◌≡◌, ◌≢◌, ℕ, suc, ◌+◌, ◌-◌, ◌<◌, ◌≤◌, ◌||◌, min, Bool, List, ◌∷◌, ◌++◌, length, take, sum_by, Option, Some, slice_get}
+use Rattle.std.specs.Prelude.{◌≡◌, ◌≢◌, ℕ, suc, ◌+◌, ◌-◌, ◌<◌, ◌≤◌, ◌||◌, min, Bool, List, ◌∷◌, ◌++◌, length, take}
+use Rattle.std.specs.Prelude.{sum_by, Option, Some, slice_get}
 use Rattle.std.specs.List.{filter, list_any, AllByRecursion, Contains}
 use Rattle.std.specs.List.Sorted.{IsStrictlyIncreasing}
 use Rattle.map_body.specs.declared.element.Element.{Element}

@@ -3,8 +3,10 @@ use Rattle.std.specs.Prelude.{ℕ, IsTrue, Option, Some, None}
 use Rattle.flow_state.specs.declared.refusal.Refusal.{Refusal}
 use Rattle.flow_state.specs.declared.flow.Lease.{Lease}
 use Rattle.flow_state.specs.Rows.{Rows, Table, table_of, change_table}
-use Rattle.flow_state.specs.Refusals.{on_table, set_channel_refusal, change_channel_refusal, add_flow_refusal, drop_flow_refusal, request_refusal, refusal_number}
-use Rattle.flow_state.specs.Changes.{is_known, with_channel, with_settings_on, with_flow, lease_given, without_flow, with_request}
+use Rattle.flow_state.specs.Refusals.{on_table, set_channel_refusal, change_channel_refusal, add_flow_refusal}
+use Rattle.flow_state.specs.Refusals.{drop_flow_refusal, request_refusal, refusal_number}
+use Rattle.flow_state.specs.Changes.{is_known, with_channel, with_settings_on, with_flow, lease_given, without_flow}
+use Rattle.flow_state.specs.Changes.{with_request}
 use Rattle.grant_machine.specs.declared.command.Command.{Command}
 use Rattle.grant_machine.specs.declared.command.Command.TheVariants as commands
 use Rattle.grant_machine.specs.declared.output.Output.{Output}

@@ -5,7 +5,8 @@ use Rattle.flow_state.specs.declared.reason.Field.{Field}
 use Rattle.flow_state.specs.declared.reason.Field.TheVariants as fields
 use Rattle.flow_state.specs.declared.reason.Reason.{Reason}
 use Rattle.flow_state.specs.Limits.{last_time, most_minislots}
-use Rattle.flow_state.specs.Reasons.{first_of, outside, why_backoff, why_set_channel, why_change, why_flow, why_drop, why_request, why_on}
+use Rattle.flow_state.specs.Reasons.{first_of, outside, why_backoff, why_set_channel, why_change, why_flow, why_drop}
+use Rattle.flow_state.specs.Reasons.{why_request, why_on}
 use Rattle.flow_state.specs.Rows.{Rows}
 use Rattle.grant_machine_parts.specs.declared.settings.CutSettings.{CutSettings}
 use Rattle.grant_machine_parts.specs.Cutting.{is_own, end_of, span_of}

@@ -1,13 +1,15 @@
 //! A cut: a channel's next MAP.
 
-ghost use Rattle.std.specs.Prelude.{◌≡◌, ℕ, ◌+◌, ◌≤◌, [], None, length, map, max, is_none, IsOk, IsSome, IfOk, OnOk, OnErr};
+ghost use Rattle.std.specs.Prelude.{◌≡◌, ℕ, ◌+◌, ◌≤◌, [], None, length, map, max, is_none, IsOk, IsSome, IfOk, OnOk};
+ghost use Rattle.std.specs.Prelude.{OnErr};
 ghost use Rattle.std.specs.List.{AllByRecursion};
 ghost use Rattle.map_body.specs.Layout.{layout};
 ghost use Rattle.flow_state.specs.Limits.{last_time, most_minislots};
 ghost use Rattle.flow_state.specs.Rows.{Table};
 ghost use Rattle.flow_state.specs.View.{flow_view};
 ghost use Rattle.grant_machine.specs.declared.output.Output.TheVariants as outputs;
-ghost use Rattle.grant_machine_parts.specs.Cutting.{fill_span, fill_refusal, told_channel, end_of, ack_of, flows_served};
+ghost use Rattle.grant_machine_parts.specs.Cutting.{fill_span, fill_refusal, told_channel, end_of, ack_of};
+ghost use Rattle.grant_machine_parts.specs.Cutting.{flows_served};
 ghost use Rattle.grant_machine_parts.specs.Drawing.{head_of};
 ghost use Rattle.grant_machine.specs.Steps.{cut_command, step, refusal_of};
 ghost use Rattle.grant_machine.specs.Fits.{FitsCommand};

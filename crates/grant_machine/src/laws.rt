@@ -1,9 +1,11 @@
 //! What holds of every list of commands.
 
-ghost use Rattle.grant_machine.specs.Laws.{MapsAreDisjoint, LeasesAreApart, GrantsAreLeased, UnsolicitedGrantsAreDue, RequestsAreGrantedOnce, OtherGrantsAreDue, GrantsAreTold, CellsAreGranted};
+ghost use Rattle.grant_machine.specs.Laws.{MapsAreDisjoint, LeasesAreApart, GrantsAreLeased, UnsolicitedGrantsAreDue};
+ghost use Rattle.grant_machine.specs.Laws.{RequestsAreGrantedOnce, OtherGrantsAreDue, GrantsAreTold, CellsAreGranted};
 ghost use Rattle.grant_machine.specs.Maintenance.{MaintenanceIsDue, MaintenanceIsTold, OpeningsHaveNoOwner};
 ghost use Rattle.grant_machine.specs.Counts.{CountsAreTold, CountsStep};
-ghost use Rattle.grant_machine.specs.Laws.{OutputsGoOn, PartsAreWhole, MapsAreBodies, MapsAreBodiesFrom, SharedMapsAreOne, SidsAreUnicast, OwnersAreOne};
+ghost use Rattle.grant_machine.specs.Laws.{OutputsGoOn, PartsAreWhole, MapsAreBodies, MapsAreBodiesFrom};
+ghost use Rattle.grant_machine.specs.Laws.{SharedMapsAreOne, SidsAreUnicast, OwnersAreOne};
 
 /// A minislot of a channel lies in one MAP at most.
 pub fn maps_are_disjoint()

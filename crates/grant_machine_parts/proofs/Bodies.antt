@@ -1,8 +1,11 @@
 -- The body of a filled MAP: its elements are those of a body, and each minislot is its holder's.
-use Rattle.std.proofs.Common.{◌≡◌, ◌≢◌, ◌⊎◌, ℕ, zero, suc, ◌+◌, ◌-◌, ◌<◌, ◌≤◌, ◌^◌, Bool, true, false, cond, ◌&&◌, ◌||◌, List, [], ◌∷◌, ◌++◌, map, length, Option, Some, None, refl, sym, ap, subst, ◌∙◌, arith, inl, inr, eqb, leb, ltb, is_some, slice_get, length-append}
+use Rattle.std.proofs.Common.{◌≡◌, ◌≢◌, ◌⊎◌, ℕ, zero, suc, ◌+◌, ◌-◌, ◌<◌, ◌≤◌, ◌^◌, Bool, true, false, cond, ◌&&◌, ◌||◌}
+use Rattle.std.proofs.Common.{List, [], ◌∷◌, ◌++◌, map, length, Option, Some, None, refl, sym, ap, subst, ◌∙◌, arith}
+use Rattle.std.proofs.Common.{inl, inr, eqb, leb, ltb, is_some, slice_get, length-append}
 use Rattle.std.proofs.Math.Bool.{or-true}
 use Rattle.std.specs.List.{list_any, AllByRecursion}
-use Rattle.std.proofs.lemmas.Bool.{eqb-true, eqb-false, leb-true, ltb-true, le-leb, lt-ltb, cases_lt, and_parts, false_from_ne_true}
+use Rattle.std.proofs.lemmas.Bool.{eqb-true, eqb-false, leb-true, ltb-true, le-leb, lt-ltb, cases_lt, and_parts}
+use Rattle.std.proofs.lemmas.Bool.{false_from_ne_true}
 use Rattle.std.proofs.lemmas.Option.{same_Some}
 use Rattle.map_body.specs.Sids.{everybody}
 use Rattle.minislot_time.specs.Extent.{Extent}
@@ -14,14 +17,17 @@ use Rattle.flow_state.specs.Limits.{last_time, last_sid, most_minislots}
 use Rattle.flow_state.specs.Rows.{Table}
 use Rattle.grant_machine_parts.specs.Placing.{Placement, holds, holder, most_placements}
 use Rattle.grant_machine_parts.specs.Cutting.{end_of, CutSettings, fill_span}
-use Rattle.grant_machine_parts.specs.Drawing.{told_sid, placed_element, free_element, null_element, beginning, begins_at}
+use Rattle.grant_machine_parts.specs.Drawing.{told_sid, placed_element, free_element, null_element, beginning}
+use Rattle.grant_machine_parts.specs.Drawing.{begins_at}
 use Rattle.grant_machine_parts.specs.Filling.{IsUseFor}
 use Rattle.map_body.proofs.Callers.{get_behind}
-use Rattle.flow_state.proofs.Callers.{Has, has_at, has_either, has_pushed, has_any, has_found, found_has, unfound, all_has}
+use Rattle.flow_state.proofs.Callers.{Has, has_at, has_either, has_pushed, has_any, has_found, found_has, unfound}
+use Rattle.flow_state.proofs.Callers.{all_has}
 use Rattle.flow_state.proofs.Callers.{eqb_apart, eqb_same}
 use Rattle.flow_state.proofs.Callers.{IsWell}
 use Rattle.grant_machine_parts.proofs.Fillings.{IsUse, plain_request, IsFor, IsLeased, MayPlace, fill_keeps}
-use Rattle.grant_machine_parts.proofs.Offsets.{InList, begun, StandAt, begun_has, next_to, in_row, begun_count, at_front, named_twice}
+use Rattle.grant_machine_parts.proofs.Offsets.{InList, begun, StandAt, begun_has, next_to, in_row, begun_count}
+use Rattle.grant_machine_parts.proofs.Offsets.{at_front, named_twice}
 
 -- ---- the placements of a filled MAP
 

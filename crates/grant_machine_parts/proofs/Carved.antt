@@ -1,7 +1,10 @@
 -- The gaps between placements: which are left once minislots are held, and the first that is wide enough.
-use Rattle.std.proofs.Common.{◌≡◌, ◌⊎◌, ℕ, zero, suc, ◌+◌, ◌-◌, ◌<◌, ◌≤◌, Bool, true, false, cond, not, ◌&&◌, ◌||◌, min, max, List, [], ◌∷◌, ◌++◌, Option, Some, None, is_none, IfSome, ⊎_elim, inl, inr, refl, sym, ap, subst, ◌∙◌, arith, leb, ltb, append_assoc}
+use Rattle.std.proofs.Common.{◌≡◌, ◌⊎◌, ℕ, zero, suc, ◌+◌, ◌-◌, ◌<◌, ◌≤◌, Bool, true, false, cond, not, ◌&&◌, ◌||◌, min}
+use Rattle.std.proofs.Common.{max, List, [], ◌∷◌, ◌++◌, Option, Some, None, is_none, IfSome, ⊎_elim, inl, inr, refl}
+use Rattle.std.proofs.Common.{sym, ap, subst, ◌∙◌, arith, leb, ltb, append_assoc}
 use Rattle.std.specs.List.{find, list_all, list_any, range_with_len, AllByRecursion}
-use Rattle.std.proofs.lemmas.Bool.{cases_lt, ltb-true, ltb-false, leb-true, leb-false, lt-ltb, lt-leb, le-leb, le-ltb, and_parts, and_right, false_from_ne_true}
+use Rattle.std.proofs.lemmas.Bool.{cases_lt, ltb-true, ltb-false, leb-true, leb-false, lt-ltb, lt-leb, le-leb, le-ltb}
+use Rattle.std.proofs.lemmas.Bool.{and_parts, and_right, false_from_ne_true}
 use Rattle.minislot_time.specs.Extent.{Extent}
 use Rattle.grant_machine_parts.specs.Placing.{Placement, holds, holder, is_free, fits_at, first_fit}
 use Rattle.grant_machine_parts.specs.Filling.{PartMap, AreApart}

@@ -1,5 +1,7 @@
 -- How many minislots are free: those of the gaps, and so many fewer after a placement where they were.
-use Rattle.std.proofs.Common.{◌≡◌, ◌⊎◌, ℕ, zero, suc, ◌+◌, ◌-◌, ◌<◌, ◌≤◌, ◌^◌, Bool, true, false, cond, not, ◌&&◌, List, [], ◌∷◌, ◌++◌, filter, length, drop, get_or, min, Some, None, is_none, inl, inr, refl, sym, ap, ◌∙◌, arith}
+use Rattle.std.proofs.Common.{◌≡◌, ◌⊎◌, ℕ, zero, suc, ◌+◌, ◌-◌, ◌<◌, ◌≤◌, ◌^◌, Bool, true, false, cond, not, ◌&&◌, List}
+use Rattle.std.proofs.Common.{[], ◌∷◌, ◌++◌, filter, length, drop, get_or, min, Some, None, is_none, inl, inr, refl}
+use Rattle.std.proofs.Common.{sym, ap, ◌∙◌, arith}
 use Rattle.std.specs.List.{range_with_len}
 use Rattle.std.proofs.lemmas.Bool.{false_from_ne_true}
 use Rattle.std.proofs.lemmas.List.{drop_more}
@@ -11,11 +13,13 @@ use Rattle.grant_machine_parts.specs.Placing.{Placement, is_window, holds, holde
 use Rattle.flow_state.specs.declared.channel.Channel.{Channel}
 use Rattle.flow_state.specs.declared.flow.Waiting.{Waiting}
 use Rattle.flow_state.specs.Rows.{Table, last_of}
-use Rattle.grant_machine_parts.specs.Cutting.{CutSettings, Periodic, Placed, verdict, placement_at, placement_for, fill_windows, in_order, fill_span}
+use Rattle.grant_machine_parts.specs.Cutting.{CutSettings, Periodic, Placed, verdict, placement_at, placement_for}
+use Rattle.grant_machine_parts.specs.Cutting.{fill_windows, in_order, fill_span}
 use Rattle.grant_machine_parts.specs.Gaps.{Gap, IsGap, AreGaps}
 use Rattle.flow_state.proofs.Callers.{filter_append}
 use Rattle.grant_machine_parts.proofs.Carved.{free_added}
-use Rattle.grant_machine_parts.proofs.Fillings.{Fit, none_is, IsRequestFit, fit_tells, placed_fit, requests_keep, windows_keep}
+use Rattle.grant_machine_parts.proofs.Fillings.{Fit, none_is, IsRequestFit, fit_tells, placed_fit, requests_keep}
+use Rattle.grant_machine_parts.proofs.Fillings.{windows_keep}
 use Rattle.grant_machine_parts.proofs.Bodies.{holds_from, holds_below, it_holds}
 
 -- ---- numbers of a row that pass a test

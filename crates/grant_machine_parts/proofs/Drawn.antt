@@ -1,5 +1,7 @@
 -- The elements of a MAP: those of placements where minislots are held, and one for each longest free run.
-use Rattle.std.proofs.Common.{◌≡◌, ◌⊎◌, ℕ, zero, suc, ◌+◌, ◌-◌, ◌<◌, ◌≤◌, ◌^◌, Bool, true, false, cond, ◌||◌, List, [], ◌∷◌, ◌++◌, Option, Some, None, is_none, is_some, length, get_or, drop, inl, inr, refl, sym, ap, subst, ◌∙◌, arith, eqb, leb, ltb, append_assoc}
+use Rattle.std.proofs.Common.{◌≡◌, ◌⊎◌, ℕ, zero, suc, ◌+◌, ◌-◌, ◌<◌, ◌≤◌, ◌^◌, Bool, true, false, cond, ◌||◌, List, []}
+use Rattle.std.proofs.Common.{◌∷◌, ◌++◌, Option, Some, None, is_none, is_some, length, get_or, drop, inl, inr, refl}
+use Rattle.std.proofs.Common.{sym, ap, subst, ◌∙◌, arith, eqb, leb, ltb, append_assoc}
 use Rattle.std.proofs.Math.Bool.{or-true}
 use Rattle.std.specs.List.{filter_map, range_with_len, AllByRecursion}
 use Rattle.std.proofs.lemmas.Bool.{cases_lt, ltb-true, ltb-false, leb-true, le-leb, lt-ltb, and_parts}

@@ -1,5 +1,8 @@
 -- How a MAP is filled: each placement fits where it is put, and the table after it is well.
-use Rattle.std.proofs.Common.{◌≡◌, ◌≢◌, ◌⊎◌, ℕ, zero, suc, ◌+◌, ◌*◌, ◌-◌, ◌/◌, ◌<◌, ◌≤◌, Bool, true, false, cond, not, ◌&&◌, max, List, [], ◌∷◌, ◌++◌, filter, length, Option, Some, None, refl, sym, ap, subst, ◌∙◌, arith, inl, inr, eqb, leb, ltb, is_none, add-mul, one-mul, div-mul-le_self, mul-le-mul_right}
+use Rattle.std.proofs.Common.{◌≡◌, ◌≢◌, ◌⊎◌, ℕ, zero, suc, ◌+◌, ◌*◌, ◌-◌, ◌/◌, ◌<◌, ◌≤◌, Bool, true, false, cond, not}
+use Rattle.std.proofs.Common.{◌&&◌, max, List, [], ◌∷◌, ◌++◌, filter, length, Option, Some, None, refl, sym, ap, subst}
+use Rattle.std.proofs.Common.{◌∙◌, arith, inl, inr, eqb, leb, ltb, is_none, add-mul, one-mul, div-mul-le_self}
+use Rattle.std.proofs.Common.{mul-le-mul_right}
 use Rattle.std.specs.List.{list_any, list_all, find, range_with_len, AllZip}
 use Rattle.std.proofs.lemmas.Bool.{leb-true, ltb-true, and_parts, not-true, ltb-false}
 use Rattle.std.proofs.lemmas.Option.{same_Some}
@@ -13,15 +16,26 @@ use Rattle.flow_state.specs.declared.flow.FlowKind.TheVariants.{BestEffort, Ugs,
 use Rattle.flow_state.specs.declared.flow.Lease.{Lease}
 use Rattle.flow_state.specs.declared.flow.Waiting.{Waiting}
 use Rattle.flow_state.specs.declared.refusal.Refusal.TheVariants.{BadValue}
-use Rattle.flow_state.specs.Limits.{last_time, most_minislots, longest_interval, last_sid, is_good_kind, is_size, is_schedule, is_timed, takes_no_requests, due_time}
-use Rattle.flow_state.specs.Rows.{Table, FlowRow, is_of, is_of_sid, flow_of, last_in, last_of, is_ended, has_ended, lease_in}
-use Rattle.grant_machine_parts.specs.Placing.{Cause, Window, Sent, Placement, holder, is_free, free_minislots, fits_at, first_fit, most_placements}
-use Rattle.grant_machine_parts.specs.Cutting.{Periodic, due_at, end_of, Missed, Placed, Kept, verdict, verdict_on, placement_at, Ran, run_due_times, run_flow, due_before, Passed, pass, grants_of_flow, polls_of_flow, maintenance_of_flow, grants_of_kind, polls_of_kind, maintenance_of_kind, fill_grants, fill_polls, fill_windows, sized_iuc, grant_iuc, unsolicited_on, unsolicited_iuc, poll_iuc, priority_of, in_order, placement_for, request_fit, place_requests, is_grant_of, CutSettings, Filled, fill, fill_span, fill_refusal, span_of, are_within_limits, table_after, flows_served}
+use Rattle.flow_state.specs.Limits.{last_time, most_minislots, longest_interval, last_sid, is_good_kind, is_size}
+use Rattle.flow_state.specs.Limits.{is_schedule, is_timed, takes_no_requests, due_time}
+use Rattle.flow_state.specs.Rows.{Table, FlowRow, is_of, is_of_sid, flow_of, last_in, last_of, is_ended, has_ended}
+use Rattle.flow_state.specs.Rows.{lease_in}
+use Rattle.grant_machine_parts.specs.Placing.{Cause, Window, Sent, Placement, holder, is_free, free_minislots, fits_at}
+use Rattle.grant_machine_parts.specs.Placing.{first_fit, most_placements}
+use Rattle.grant_machine_parts.specs.Cutting.{Periodic, due_at, end_of, Missed, Placed, Kept, verdict, verdict_on}
+use Rattle.grant_machine_parts.specs.Cutting.{placement_at, Ran, run_due_times, run_flow, due_before, Passed, pass}
+use Rattle.grant_machine_parts.specs.Cutting.{grants_of_flow, polls_of_flow, maintenance_of_flow, grants_of_kind}
+use Rattle.grant_machine_parts.specs.Cutting.{polls_of_kind, maintenance_of_kind, fill_grants, fill_polls, fill_windows}
+use Rattle.grant_machine_parts.specs.Cutting.{sized_iuc, grant_iuc, unsolicited_on, unsolicited_iuc, poll_iuc}
+use Rattle.grant_machine_parts.specs.Cutting.{priority_of, in_order, placement_for, request_fit, place_requests}
+use Rattle.grant_machine_parts.specs.Cutting.{is_grant_of, CutSettings, Filled, fill, fill_span, fill_refusal, span_of}
+use Rattle.grant_machine_parts.specs.Cutting.{are_within_limits, table_after, flows_served}
 use Rattle.grant_machine_parts.specs.Filling.{IsRequestedUse, IsMaintenanceUse, IsDueUse, IsUseFor}
 use Rattle.flow_state.proofs.Callers.{Has, has_filter, filter_has, has_flat_map}
 use Rattle.grant_machine_parts.proofs.Offsets.{first_or_later}
 use Rattle.grant_machine_parts.proofs.Windows.{first_fit_tells, placed_is, placed_tells}
-use Rattle.flow_state.proofs.Callers.{IsWell, IsWellFlow, RisingFrom, filter_fewer, filter_both, flow_found, ended_with, rising_filter}
+use Rattle.flow_state.proofs.Callers.{IsWell, IsWellFlow, RisingFrom, filter_fewer, filter_both, flow_found, ended_with}
+use Rattle.flow_state.proofs.Callers.{rising_filter}
 
 -- ---- where a placement may go
 

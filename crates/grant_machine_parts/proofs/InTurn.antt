@@ -1,5 +1,7 @@
 -- With nothing kept, a request that has a first fit in its turn is placed.
-use Rattle.std.proofs.Common.{◌≡◌, ℕ, ◌+◌, ◌-◌, ◌≤◌, Bool, true, false, cond, ◌&&◌, ◌||◌, List, [], ◌∷◌, ◌++◌, filter, length, Option, Some, None, refl, sym, ap, subst, ◌∙◌, arith, inl, inr, eqb, leb, append_assoc, length-append}
+use Rattle.std.proofs.Common.{◌≡◌, ℕ, ◌+◌, ◌-◌, ◌≤◌, Bool, true, false, cond, ◌&&◌, ◌||◌, List, [], ◌∷◌, ◌++◌, filter}
+use Rattle.std.proofs.Common.{length, Option, Some, None, refl, sym, ap, subst, ◌∙◌, arith, inl, inr, eqb, leb}
+use Rattle.std.proofs.Common.{append_assoc, length-append}
 use Rattle.std.specs.List.{list_any}
 use Rattle.std.proofs.lemmas.Bool.{eqb-true, le-leb, and_parts, false_from_ne_true}
 use Rattle.std.proofs.lemmas.List.{append-nil}
@@ -8,8 +10,10 @@ use Rattle.flow_state.specs.declared.channel.Channel.{Channel}
 use Rattle.flow_state.specs.declared.flow.Waiting.{Waiting}
 use Rattle.flow_state.specs.Rows.{Table, is_of, last_of}
 use Rattle.grant_machine_parts.specs.Placing.{Placement, is_window, free_minislots, first_fit}
-use Rattle.grant_machine_parts.specs.Cutting.{CutSettings, Periodic, placement_at, placement_for, fill_windows, end_of, in_order, is_grant_of, request_fit, place_requests, fill_span}
-use Rattle.flow_state.proofs.Callers.{Has, IsWell, any_has, eqb_same, filter_append, filter_empty, filter_has, has_any, has_either, has_left, has_pushed, has_right}
+use Rattle.grant_machine_parts.specs.Cutting.{CutSettings, Periodic, placement_at, placement_for, fill_windows, end_of}
+use Rattle.grant_machine_parts.specs.Cutting.{in_order, is_grant_of, request_fit, place_requests, fill_span}
+use Rattle.flow_state.proofs.Callers.{Has, IsWell, any_has, eqb_same, filter_append, filter_empty, filter_has, has_any}
+use Rattle.flow_state.proofs.Callers.{has_either, has_left, has_pushed, has_right}
 use Rattle.grant_machine_parts.proofs.Counted.{fit_room}
 use Rattle.grant_machine_parts.proofs.Fillings.{fit_tells, windows_keep}
 use Rattle.grant_machine_parts.proofs.Orders.{in_order_fewer}

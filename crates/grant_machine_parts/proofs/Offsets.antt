@@ -1,5 +1,7 @@
 -- Elements that begin at offsets in order, and others behind them.
-use Rattle.std.proofs.Common.{◌≡◌, ◌⊎◌, ℕ, zero, suc, ◌+◌, ◌<◌, ◌≤◌, Bool, true, false, cond, ◌||◌, List, [], ◌∷◌, ◌++◌, filter, length, Option, Some, None, refl, sym, ap, subst, ◌∙◌, arith, inl, inr, eqb, slice_get}
+use Rattle.std.proofs.Common.{◌≡◌, ◌⊎◌, ℕ, zero, suc, ◌+◌, ◌<◌, ◌≤◌, Bool, true, false, cond, ◌||◌, List, [], ◌∷◌, ◌++◌}
+use Rattle.std.proofs.Common.{filter, length, Option, Some, None, refl, sym, ap, subst, ◌∙◌, arith, inl, inr, eqb}
+use Rattle.std.proofs.Common.{slice_get}
 use Rattle.std.specs.List.{list_any, range_with_len, filter_map, cons_option}
 use Rattle.std.proofs.lemmas.Bool.{eqb-true}
 use Rattle.std.proofs.lemmas.Option.{same_Some}

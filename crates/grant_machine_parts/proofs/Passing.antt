@@ -1,5 +1,6 @@
 -- Due times one after another, and those that may be passed over.
-use Rattle.std.proofs.Common.{◌≡◌, ℕ, zero, suc, ◌+◌, ◌-◌, ◌*◌, ◌/◌, ◌%◌, ◌<◌, ◌≤◌, Bool, true, false, not, cond, max, List, [], ◌∷◌, ◌++◌, length, Some, None, refl, sym, ap, ◌∙◌, arith, ltb, ⊎_elim, add-one}
+use Rattle.std.proofs.Common.{◌≡◌, ℕ, zero, suc, ◌+◌, ◌-◌, ◌*◌, ◌/◌, ◌%◌, ◌<◌, ◌≤◌, Bool, true, false, not, cond, max}
+use Rattle.std.proofs.Common.{List, [], ◌∷◌, ◌++◌, length, Some, None, refl, sym, ap, ◌∙◌, arith, ltb, ⊎_elim, add-one}
 use Rattle.std.proofs.lemmas.Bool.{lt-ltb, lt-leb, le-leb, cases_lt, le-ltb}
 use Rattle.std.proofs.lemmas.Nat.{div-add-mod', div-mul-add, mod_below, mul-le}
 use Rattle.std.proofs.lemmas.Grind.{div_ceil_times}
@@ -7,7 +8,8 @@ use Rattle.std.specs.Int.{div_ceil}
 use Rattle.std.proofs.Math.Nat.{div-eq_of_lt}
 use Rattle.minislot_time.specs.Extent.{Extent}
 use Rattle.grant_machine_parts.specs.Placing.{Placement, first_fit, most_placements}
-use Rattle.grant_machine_parts.specs.Cutting.{Periodic, due_at, due_before, end_of, Verdict, Missed, Placed, Kept, verdict, verdict_on, unplaced, placement_at, Ran, run_due_times, run_flow}
+use Rattle.grant_machine_parts.specs.Cutting.{Periodic, due_at, due_before, end_of, Verdict, Missed, Placed, Kept}
+use Rattle.grant_machine_parts.specs.Cutting.{verdict, verdict_on, unplaced, placement_at, Ran, run_due_times, run_flow}
 use Rattle.grant_machine_parts.specs.Filling.{PartMap, goes_on, placements_on}
 
 next_due : (p : Periodic) (i : ℕ) → due_at p (i + 1) ≡ due_at p i + p.interval

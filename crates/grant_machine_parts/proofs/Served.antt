@@ -1,5 +1,6 @@
 -- The grants of a flow that is given minislots at due times, over a MAP.
-use Rattle.std.proofs.Common.{◌≡◌, ◌⊎◌, ℕ, ◌≤◌, Bool, true, false, cond, not, List, [], ◌∷◌, ◌++◌, filter, Option, Some, None, refl, sym, ap, subst, ◌∙◌, arith, eqb, inl, inr}
+use Rattle.std.proofs.Common.{◌≡◌, ◌⊎◌, ℕ, ◌≤◌, Bool, true, false, cond, not, List, [], ◌∷◌, ◌++◌, filter, Option, Some}
+use Rattle.std.proofs.Common.{None, refl, sym, ap, subst, ◌∙◌, arith, eqb, inl, inr}
 use Rattle.std.specs.List.{AllZip, list_any}
 use Rattle.std.proofs.lemmas.Bool.{eqb-true}
 use Rattle.std.proofs.lemmas.List.{append-nil}
@@ -11,7 +12,12 @@ use Rattle.flow_state.specs.declared.flow.FlowKind.TheVariants.{Ugs, Station, In
 use Rattle.flow_state.specs.declared.flow.Waiting.{Waiting}
 use Rattle.flow_state.specs.Rows.{Table, FlowRow, is_flow, is_of, last_of, is_ended, has_ended}
 use Rattle.grant_machine_parts.specs.Placing.{Placement}
-use Rattle.grant_machine_parts.specs.Cutting.{Periodic, end_of, Ran, run_due_times, run_flow, due_before, Passed, pass, grants_of_flow, polls_of_flow, maintenance_of_flow, grants_of_kind, polls_of_kind, maintenance_of_kind, fill_grants, fill_polls, fill_windows, request_fit, place_requests, placement_for, in_order, CutSettings, Filled, fill_span, still_waiting, requests_left, is_grant_of, table_after, unsolicited_iuc}
+use Rattle.grant_machine_parts.specs.Cutting.{Periodic, end_of, Ran, run_due_times, run_flow, due_before, Passed, pass}
+use Rattle.grant_machine_parts.specs.Cutting.{grants_of_flow, polls_of_flow, maintenance_of_flow, grants_of_kind}
+use Rattle.grant_machine_parts.specs.Cutting.{polls_of_kind, maintenance_of_kind, fill_grants, fill_polls, fill_windows}
+use Rattle.grant_machine_parts.specs.Cutting.{request_fit, place_requests, placement_for, in_order, CutSettings, Filled}
+use Rattle.grant_machine_parts.specs.Cutting.{fill_span, still_waiting, requests_left, is_grant_of, table_after}
+use Rattle.grant_machine_parts.specs.Cutting.{unsolicited_iuc}
 use Rattle.flow_state.proofs.Callers.{Has, has_filter, filter_append, filter_sub, filter_swap, eqb_same}
 use Rattle.grant_machine_parts.proofs.Fillings.{grants_of, polls_of, maintenance_of}
 use Rattle.grant_machine_parts.proofs.Orders.{passing_in_order}

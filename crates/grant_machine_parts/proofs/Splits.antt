@@ -1,9 +1,12 @@
 -- A gap that is split in its place, and gaps that are passed over.
-use Rattle.std.proofs.Common.{◌≡◌, ℕ, zero, suc, ◌+◌, ◌<◌, ◌≤◌, Bool, true, false, cond, ◌&&◌, ◌||◌, max, List, [], ◌∷◌, ◌++◌, length, take, drop, Some, None, slice_get, slice_set, slice_index_or, refl, sym, ap, subst, ◌∙◌, arith, leb, ltb}
+use Rattle.std.proofs.Common.{◌≡◌, ℕ, zero, suc, ◌+◌, ◌<◌, ◌≤◌, Bool, true, false, cond, ◌&&◌, ◌||◌, max, List, [], ◌∷◌}
+use Rattle.std.proofs.Common.{◌++◌, length, take, drop, Some, None, slice_get, slice_set, slice_index_or, refl, sym, ap}
+use Rattle.std.proofs.Common.{subst, ◌∙◌, arith, leb, ltb}
 use Rattle.std.specs.List.{list_any, insert}
 use Rattle.std.proofs.lemmas.Bool.{lt-ltb, le-ltb, le-leb, lt-leb, leb-true}
 use Rattle.std.proofs.lemmas.Option.{slice_get_read, slice_get_within}
-use Rattle.grant_machine_parts.specs.Gaps.{Gap, AreGaps, covers, left_of, right_of, carved_gap, carved, gap_in, HasPassed, IsInGap}
+use Rattle.grant_machine_parts.specs.Gaps.{Gap, AreGaps, covers, left_of, right_of, carved_gap, carved, gap_in}
+use Rattle.grant_machine_parts.specs.Gaps.{HasPassed, IsInGap}
 
 -- ---- what is put in the place of a gap
 

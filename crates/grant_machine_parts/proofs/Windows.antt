@@ -1,12 +1,14 @@
 -- Grants and polls begin within their windows, one after another.
-use Rattle.std.proofs.Common.{◌≡◌, ℕ, zero, suc, ◌+◌, ◌≤◌, Bool, true, false, cond, max, List, [], ◌∷◌, ◌++◌, length, Option, Some, None, refl, sym, ap, ◌∙◌, arith, ltb, leb, append_assoc}
+use Rattle.std.proofs.Common.{◌≡◌, ℕ, zero, suc, ◌+◌, ◌≤◌, Bool, true, false, cond, max, List, [], ◌∷◌, ◌++◌, length}
+use Rattle.std.proofs.Common.{Option, Some, None, refl, sym, ap, ◌∙◌, arith, ltb, leb, append_assoc}
 use Rattle.std.specs.List.{find, list_all, range_with_len, AllZip}
 use Rattle.std.proofs.lemmas.Bool.{leb-true, and_parts}
 use Rattle.std.proofs.lemmas.List.{append-nil}
 use Rattle.flow_state.proofs.Callers.{find_passes}
 use Rattle.minislot_time.specs.Extent.{Extent}
 use Rattle.grant_machine_parts.specs.Placing.{Placement, is_free, fits_at, first_fit, most_placements}
-use Rattle.grant_machine_parts.specs.Cutting.{Periodic, due_at, end_of, Missed, Placed, Kept, verdict, verdict_on, placement_at, Ran, run_due_times}
+use Rattle.grant_machine_parts.specs.Cutting.{Periodic, due_at, end_of, Missed, Placed, Kept, verdict, verdict_on}
+use Rattle.grant_machine_parts.specs.Cutting.{placement_at, Ran, run_due_times}
 
 -- n free minislots of a MAP begin at offset x, from lo to hi, and end by the last one
 pub record FitsAt (span : Extent) (ps : List Placement) (n lo hi last x : ℕ) : Type 0 where

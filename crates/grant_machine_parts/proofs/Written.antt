@@ -1,5 +1,6 @@
 -- The bytes of a MAP that isn't refused are a body as it is written.
-use Rattle.std.proofs.Common.{◌≡◌, ℕ, ◌<◌, ◌≤◌, ◌^◌, Bool, true, false, cond, ◌||◌, not, List, ◌∷◌, map, length, None, refl, ap, subst, arith, leb, length-append, mod-lt}
+use Rattle.std.proofs.Common.{◌≡◌, ℕ, ◌<◌, ◌≤◌, ◌^◌, Bool, true, false, cond, ◌||◌, not, List, ◌∷◌, map, length, None}
+use Rattle.std.proofs.Common.{refl, ap, subst, arith, leb, length-append, mod-lt}
 use Rattle.std.specs.List.{list_any, AllByRecursion}
 use Rattle.std.proofs.lemmas.Bool.{leb-true, and_parts}
 use Rattle.std.proofs.lemmas.List.{length-map}
@@ -9,12 +10,15 @@ use Rattle.map_body.specs.Layout.{IsWritten}
 use Rattle.flow_state.specs.declared.channel.Channel.{Channel}
 use Rattle.flow_state.specs.Limits.{last_sid, most_minislots, is_good_channel, is_backoff}
 use Rattle.flow_state.specs.Rows.{Table, has_ended}
-use Rattle.grant_machine_parts.specs.Cutting.{CutSettings, Filled, fill, fill_refusal, is_own, told_backoff, told_channel, is_cut_backoff, end_of, span_of, in_order, still_waiting, is_grant_of}
+use Rattle.grant_machine_parts.specs.Cutting.{CutSettings, Filled, fill, fill_refusal, is_own, told_backoff}
+use Rattle.grant_machine_parts.specs.Cutting.{told_channel, is_cut_backoff, end_of, span_of, in_order, still_waiting}
+use Rattle.grant_machine_parts.specs.Cutting.{is_grant_of}
 use Rattle.grant_machine_parts.specs.Drawing.{null_element, pending_element, begins_at, elements_of, body_of, bytes_of}
 use Rattle.flow_state.proofs.Callers.{Has, has_map}
 use Rattle.grant_machine_parts.proofs.Orders.{in_order_length}
 use Rattle.flow_state.proofs.Callers.{IsWell, filter_fewer}
-use Rattle.grant_machine_parts.proofs.Fillings.{IsUse, plain_requested, grant_use, in_order_has, IsCut, is_cut, cut_is_well}
+use Rattle.grant_machine_parts.proofs.Fillings.{IsUse, plain_requested, grant_use, in_order_has, IsCut, is_cut}
+use Rattle.grant_machine_parts.proofs.Fillings.{cut_is_well}
 use Rattle.grant_machine_parts.proofs.Offsets.{begun}
 use Rattle.grant_machine_parts.proofs.Bodies.{ArePlaced, fill_placed, count_few, are_elements, elements_fit}
 

@@ -9,7 +9,8 @@ use Rattle.flow_state.specs.Limits.{last_sid, is_good_kind, due_time, due_index}
 use Rattle.flow_state.specs.Rows.{FlowRow}
 use Rattle.grant_machine_parts.specs.declared.services.Service.{Service}
 use Rattle.grant_machine_parts.specs.declared.services.Service.TheVariants.{Grants, Polls, Maintenance}
-use Rattle.grant_machine_parts.specs.Cutting.{Periodic, unsolicited_iuc, poll_iuc, grants_of_kind, polls_of_kind, maintenance_of_kind}
+use Rattle.grant_machine_parts.specs.Cutting.{Periodic, unsolicited_iuc, poll_iuc, grants_of_kind, polls_of_kind}
+use Rattle.grant_machine_parts.specs.Cutting.{maintenance_of_kind}
 use Rattle.grant_machine_parts.specs.Filling.{last_due}
 use Rattle.grant_machine_parts.specs.Ranks.{Ranked}
 

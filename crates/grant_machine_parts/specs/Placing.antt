@@ -1,5 +1,6 @@
 -- Minislots of one MAP that are free or held, and the first fit among them.
-use Rattle.std.specs.Prelude.{ℕ, ◌+◌, Bool, true, false, ◌&&◌, if◌then◌else◌, nat_lt, nat_le, List, length, map, Option, None, is_none}
+use Rattle.std.specs.Prelude.{ℕ, ◌+◌, Bool, true, false, ◌&&◌, if◌then◌else◌, nat_lt, nat_le, List, length, map, Option}
+use Rattle.std.specs.Prelude.{None, is_none}
 use Rattle.std.specs.List.{find, filter, list_all, range_with_len}
 use Rattle.minislot_time.specs.Extent.{Extent}
 use Rattle.grant_machine_parts.specs.declared.placing.TheConstants.{MOST_PLACEMENTS}

@@ -1,6 +1,7 @@
 //! The MAP body that tells modems of a filled MAP.
 
-ghost use Rattle.std.specs.Prelude.{◌≡◌, ℕ, ◌+◌, ◌-◌, ◌^◌, ◌<◌, ◌≤◌, ◌==◌, nat_lt, false, if◌then◌else◌, [], ◌∷◌, ◌++◌, map, IsTrue, OnOk};
+ghost use Rattle.std.specs.Prelude.{◌≡◌, ℕ, ◌+◌, ◌-◌, ◌^◌, ◌<◌, ◌≤◌, ◌==◌, nat_lt, false, if◌then◌else◌, [], ◌∷◌, ◌++◌};
+ghost use Rattle.std.specs.Prelude.{map, IsTrue, OnOk};
 ghost use Rattle.std.specs.List.{filter_map, range_with_len};
 ghost use Rattle.flow_state.specs.Limits.{most_minislots};
 ghost use Rattle.std.specs.List.{AllByRecursion};
@@ -8,7 +9,8 @@ ghost use Rattle.grant_machine_parts.specs.Placing.{holds, holder, is_free};
 ghost use Rattle.grant_machine_parts.specs.Gaps.{AreGaps};
 ghost use Rattle.grant_machine_parts.specs.Filling.{AreApart};
 ghost use Rattle.grant_machine_parts.specs.Cutting.{still_waiting};
-ghost use Rattle.grant_machine_parts.specs.Drawing.{told_sid, placed_element, free_element, null_element, pending_element, begins_at, head_of};
+ghost use Rattle.grant_machine_parts.specs.Drawing.{told_sid, placed_element, free_element, null_element};
+ghost use Rattle.grant_machine_parts.specs.Drawing.{pending_element, begins_at, head_of};
 ghost use Rattle.grant_machine_parts.specs.Lent.{IsUnicast};
 ghost use Rattle.grant_machine_parts.specs.Ranks.{requests_in, going_on};
 ghost use Rattle.grant_machine_parts.specs.Cutting.{end_of};

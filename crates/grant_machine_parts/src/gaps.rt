@@ -1,6 +1,7 @@
 //! The free minislots of a MAP: the gaps between its placements.
 
-ghost use Rattle.std.specs.Prelude.{◌≡◌, ◌⊎◌, ℕ, suc, ◌+◌, ◌^◌, ◌<◌, ◌≤◌, ◌++◌, Bool, List, length, take, drop, slice_get, Some, IsTrue, OnOk, OnErr, IfOk};
+ghost use Rattle.std.specs.Prelude.{◌≡◌, ◌⊎◌, ℕ, suc, ◌+◌, ◌^◌, ◌<◌, ◌≤◌, ◌++◌, Bool, List, length, take, drop};
+ghost use Rattle.std.specs.Prelude.{slice_get, Some, IsTrue, OnOk, OnErr, IfOk};
 ghost use Rattle.std.specs.List.{find, filter, list_any, range_with_len};
 ghost use Rattle.grant_machine_parts.specs.Placing.{Placement, is_free, fits_at};
 ghost use Rattle.grant_machine_parts.specs.Gaps.{Gap, AreGaps, covers, carved_gap, carved, gap_in, HasPassed, IsInGap};

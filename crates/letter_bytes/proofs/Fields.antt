@@ -1,8 +1,11 @@
 -- A field that is read is the field that was written, and what was written is read again.
-use Rattle.std.proofs.Common.{◌≡◌, ℕ, suc, ◌+◌, ◌%◌, ◌^◌, ◌<◌, ◌≤◌, ◌&&◌, ◌==◌, Bool, true, false, cond, ltb, List, [], ◌∷◌, ◌++◌, length, take, drop, Ok, Err, nat_le, nat_lt, refl, sym, ap, subst, ◌∙◌, append_assoc, arith, inl, inr}
+use Rattle.std.proofs.Common.{◌≡◌, ℕ, suc, ◌+◌, ◌%◌, ◌^◌, ◌<◌, ◌≤◌, ◌&&◌, ◌==◌, Bool, true, false, cond, ltb, List, []}
+use Rattle.std.proofs.Common.{◌∷◌, ◌++◌, length, take, drop, Ok, Err, nat_le, nat_lt, refl, sym, ap, subst, ◌∙◌}
+use Rattle.std.proofs.Common.{append_assoc, arith, inl, inr}
 use Rattle.std.specs.Int.{Width, w64, byte_len, from_be_bytes, to_be_bytes}
 use Rattle.std.proofs.lemmas.Bool.{eqb-true, cases_lt, ltb-false, le-ltb, lt-ltb, ltb-true, leb-true, le-leb, and_parts}
-use Rattle.std.proofs.lemmas.List.{take_at, drop_at, take-append-drop, length-append, length-take, get_or-drop, get_or-take, get_or_past}
+use Rattle.std.proofs.lemmas.List.{take_at, drop_at, take-append-drop, length-append, length-take, get_or-drop}
+use Rattle.std.proofs.lemmas.List.{get_or-take, get_or_past}
 use Rattle.std.proofs.lemmas.Nat.{be_bytes_8, from_be_bytes-to_be_bytes_8}
 use Rattle.ballots.specs.Ballots.{IsBallot}
 use Rattle.letter_bytes.specs.declared.fault.LetterFault.{LetterFault}
@@ -10,7 +13,8 @@ use Rattle.letter_bytes.specs.declared.fault.LetterFault.TheVariants.{Short, NoN
 use Rattle.letter_bytes.specs.Spelling.{IsCounted, kind_byte, number, value_spelling}
 use Rattle.letter_bytes.specs.declared.kind.Kind.{Kind}
 use Rattle.letter_bytes.specs.declared.kind.Kind.TheVariants as kinds
-use Rattle.letter_bytes.specs.Reading.{◌>>=◌, AreBytes, Read, byte_at, number_at, kind_at, kind_by, node_at, node_by, ballot_at, ballot_by, is_ballot, value_at}
+use Rattle.letter_bytes.specs.Reading.{◌>>=◌, AreBytes, Read, byte_at, number_at, kind_at, kind_by, node_at, node_by}
+use Rattle.letter_bytes.specs.Reading.{ballot_at, ballot_by, is_ballot, value_at}
 
 AreBytes-drop : (n : ℕ) (bytes : List ℕ) → AreBytes bytes → AreBytes (drop n bytes)
 AreBytes-drop n bytes h i = rw get_or-drop (h (n + i))

@@ -11,7 +11,8 @@ use Rattle.ballots.specs.declared.letters.Letter.{Letter}
 use Rattle.ballots.specs.declared.letters.Note.{Note}
 use Rattle.ballots.specs.declared.letters.Note.TheVariants.{Prepare, Promise, Accept, Voted, Higher, Known}
 use Rattle.letter_bytes.specs.Longest.{IsWithinLimits, ReportsAll, longest_letter, values_carried}
-use Rattle.letter_bytes.specs.Spelling.{number, value_spelling, vote_spelling, fields_spelling, votes_reported, spelling}
+use Rattle.letter_bytes.specs.Spelling.{number, value_spelling, vote_spelling, fields_spelling, votes_reported}
+use Rattle.letter_bytes.specs.Spelling.{spelling}
 
 abbrev Rows : Type 0
 Rows = List (ℕ × Cast)

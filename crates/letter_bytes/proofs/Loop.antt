@@ -1,10 +1,12 @@
 -- Votes that are read one after the other, as a loop does.
-use Rattle.std.proofs.Common.{◌≡◌, ℕ, suc, ◌-◌, ◌+◌, ◌≤◌, ◌<◌, List, [], ◌∷◌, ◌++◌, Ok, Err, refl, sym, ap, ◌∙◌, append_assoc, arith}
+use Rattle.std.proofs.Common.{◌≡◌, ℕ, suc, ◌-◌, ◌+◌, ◌≤◌, ◌<◌, List, [], ◌∷◌, ◌++◌, Ok, Err, refl, sym, ap, ◌∙◌}
+use Rattle.std.proofs.Common.{append_assoc, arith}
 use Rattle.std.specs.Prelude.{IsOk}
 use Rattle.std.proofs.lemmas.List.{append-nil}
 use Rattle.ballots.specs.declared.letters.Cast.{Cast}
 use Rattle.letter_bytes.specs.declared.fault.LetterFault.{LetterFault}
-use Rattle.letter_bytes.specs.declared.fault.LetterFault.TheVariants.{Short, NoNote, NoNode, NoBallot, Trailing, OutOfMemory}
+use Rattle.letter_bytes.specs.declared.fault.LetterFault.TheVariants.{Short, NoNote, NoNode, NoBallot, Trailing}
+use Rattle.letter_bytes.specs.declared.fault.LetterFault.TheVariants.{OutOfMemory}
 use Rattle.letter_bytes.specs.Reading.{◌>>=◌, Read, FailsReading, HasVote, vote_at, votes_in}
 
 abbrev Rows : Type 0

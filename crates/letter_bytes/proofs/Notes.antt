@@ -1,5 +1,6 @@
 -- A note that is read is the note that was written, and what was written is read again; so for letters.
-use Rattle.std.proofs.Common.{◌≡◌, ◌<◌, ℕ, cond, eqb, All, List, [], ◌∷◌, ◌++◌, length, Ok, Err, Result, refl, sym, ap, subst, ◌∙◌, append_assoc, arith}
+use Rattle.std.proofs.Common.{◌≡◌, ◌<◌, ℕ, cond, eqb, All, List, [], ◌∷◌, ◌++◌, length, Ok, Err, Result, refl, sym, ap}
+use Rattle.std.proofs.Common.{subst, ◌∙◌, append_assoc, arith}
 use Rattle.std.specs.Prelude.{IfOk, MatchResult}
 use Rattle.std.specs.List.{flat_map}
 use Rattle.std.proofs.lemmas.Bool.{eqb-true}
@@ -13,10 +14,16 @@ use Rattle.letter_bytes.specs.declared.fault.LetterFault.{LetterFault}
 use Rattle.letter_bytes.specs.declared.fault.LetterFault.TheVariants.{Trailing}
 use Rattle.letter_bytes.specs.declared.kind.Kind.{Kind}
 use Rattle.letter_bytes.specs.declared.kind.Kind.TheVariants as kinds
-use Rattle.letter_bytes.specs.Spelling.{number, value_spelling, vote_spelling, kind_byte, kind_of, fields_spelling, votes_reported, spelling, FitsFields, FitsLetter, FitsVote, IsCounted, IsNumber, Spells, SpellsNone}
+use Rattle.letter_bytes.specs.Spelling.{number, value_spelling, vote_spelling, kind_byte, kind_of, fields_spelling}
+use Rattle.letter_bytes.specs.Spelling.{votes_reported, spelling, FitsFields, FitsLetter, FitsVote, IsCounted, IsNumber}
+use Rattle.letter_bytes.specs.Spelling.{Spells, SpellsNone}
 use Rattle.ballots.specs.Ballots.{IsBallot}
-use Rattle.letter_bytes.specs.Reading.{◌>>=◌, AreBytes, Gives, Read, number_at, ballot_at, value_at, votes_in, promised_at, prepare_at, promise_at, valued_at, higher_at, known_at, kind_at, node_at, note_at, address_at, letter_of}
-use Rattle.letter_bytes.proofs.Fields.{bind_ok, guard_met, ok_is, Begins, Begins-then, number_begins, number_again, kind_begins, kind_again, node_begins, node_again, ballot_begins, ballot_again, value_begins, value_again}
+use Rattle.letter_bytes.specs.Reading.{◌>>=◌, AreBytes, Gives, Read, number_at, ballot_at, value_at, votes_in}
+use Rattle.letter_bytes.specs.Reading.{promised_at, prepare_at, promise_at, valued_at, higher_at, known_at, kind_at}
+use Rattle.letter_bytes.specs.Reading.{node_at, note_at, address_at, letter_of}
+use Rattle.letter_bytes.proofs.Fields.{bind_ok, guard_met, ok_is, Begins, Begins-then, number_begins, number_again}
+use Rattle.letter_bytes.proofs.Fields.{kind_begins, kind_again, node_begins, node_again, ballot_begins, ballot_again}
+use Rattle.letter_bytes.proofs.Fields.{value_begins, value_again}
 use Rattle.letter_bytes.proofs.Votes.{votes_begin, votes_again}
 
 abbrev okay : {A : Type 0} → A → Read A

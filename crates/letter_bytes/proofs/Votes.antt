@@ -5,7 +5,8 @@ use Rattle.std.proofs.lemmas.List.Concat.{flat_map-cons}
 use Rattle.ballots.specs.declared.letters.Cast.{Cast}
 use Rattle.letter_bytes.specs.Spelling.{number, value_spelling, vote_spelling, FitsVote}
 use Rattle.letter_bytes.specs.Reading.{◌>>=◌, AreBytes, ballot_at, number_at, value_at, vote_at, votes_in}
-use Rattle.letter_bytes.proofs.Fields.{bind_ok, ok_is, Begins, Begins-then, number_begins, number_again, ballot_begins, ballot_again, value_begins, value_again}
+use Rattle.letter_bytes.proofs.Fields.{bind_ok, ok_is, Begins, Begins-then, number_begins, number_again, ballot_begins}
+use Rattle.letter_bytes.proofs.Fields.{ballot_again, value_begins, value_again}
 
 abbrev cast : ℕ → List ℕ → Cast
 cast b v = record { ballot = b; value = v }

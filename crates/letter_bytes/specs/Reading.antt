@@ -1,12 +1,14 @@
 -- Reading a letter from left to right, up to the first fault.
-use Rattle.std.specs.Prelude.{◌≡◌, ℕ, zero, suc, ◌<◌, ◌^◌, ◌%◌, ◌&&◌, Bool, List, [], ◌∷◌, length, take, drop, Result, Ok, Err, IsOk, IsOkAnd, slice_index, nat_lt, nat_le, ◌==◌, if◌then◌else◌}
+use Rattle.std.specs.Prelude.{◌≡◌, ℕ, zero, suc, ◌<◌, ◌^◌, ◌%◌, ◌&&◌, Bool, List, [], ◌∷◌, length, take, drop, Result}
+use Rattle.std.specs.Prelude.{Ok, Err, IsOk, IsOkAnd, slice_index, nat_lt, nat_le, ◌==◌, if◌then◌else◌}
 use Rattle.std.specs.Int.{w64, from_be_bytes}
 use Rattle.ballots.specs.declared.letters.Cast.{Cast}
 use Rattle.ballots.specs.declared.letters.Letter.{Letter}
 use Rattle.ballots.specs.declared.letters.Note.{Note}
 use Rattle.ballots.specs.declared.letters.Note.TheVariants.{Prepare, Promise, Accept, Voted, Higher, Known}
 use Rattle.letter_bytes.specs.declared.fault.LetterFault.{LetterFault}
-use Rattle.letter_bytes.specs.declared.fault.LetterFault.TheVariants.{Short, NoNote, NoNode, NoBallot, Trailing, OutOfMemory}
+use Rattle.letter_bytes.specs.declared.fault.LetterFault.TheVariants.{Short, NoNote, NoNode, NoBallot, Trailing}
+use Rattle.letter_bytes.specs.declared.fault.LetterFault.TheVariants.{OutOfMemory}
 use Rattle.letter_bytes.specs.declared.kind.Kind.{Kind}
 use Rattle.letter_bytes.specs.declared.kind.Kind.TheVariants as kinds
 

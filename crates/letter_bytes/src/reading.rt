@@ -4,7 +4,8 @@ ghost use Rattle.std.specs.Prelude.{IfOk, IsOk, Ok};
 ghost use Rattle.ballots.specs.declared.letters.Letter.{Letter as LetterView};
 ghost use Rattle.letter_bytes.specs.Spelling.{Spells};
 ghost use Rattle.letter_bytes.specs.Reading.{Gives, HasValue, HasVote, Takes, TakesMemory};
-ghost use Rattle.letter_bytes.specs.Reading.{ballot_at, byte_at, kind_at, letter_of, node_at, note_at, number_at, promised_at, value_at, vote_at, votes_in};
+ghost use Rattle.letter_bytes.specs.Reading.{ballot_at, byte_at, kind_at, letter_of, node_at, note_at, number_at};
+ghost use Rattle.letter_bytes.specs.Reading.{promised_at, value_at, vote_at, votes_in};
 
 use crate::fault::LetterFault;
 use crate::kind::Kind;

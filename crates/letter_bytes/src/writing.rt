@@ -4,7 +4,8 @@ ghost use Rattle.std.specs.Prelude.{◌≡◌, All, OnOk};
 ghost use Rattle.std.specs.Io.KnownBytes.{Appends};
 ghost use Rattle.std.specs.List.{flat_map};
 ghost use Rattle.letter_bytes.specs.Spelling.{FitsFields, FitsFront, FitsLetter, FitsVote, IsCounted, votes_reported};
-ghost use Rattle.letter_bytes.specs.Spelling.{fields_spelling, front_spelling, number, spelling, value_spelling, vote_spelling};
+ghost use Rattle.letter_bytes.specs.Spelling.{fields_spelling, front_spelling, number, spelling, value_spelling};
+ghost use Rattle.letter_bytes.specs.Spelling.{vote_spelling};
 
 use crate::kind::Kind;
 use ballots::{Bytes, Cast, Letter, Note};

@@ -1,7 +1,8 @@
 -- The number that stands for the fault of a body.
 use Rattle.std.specs.Prelude.{ℕ}
 use Rattle.map_body.specs.declared.fault.MapFault.{MapFault}
-use Rattle.map_body.specs.declared.fault.MapFault.TheVariants.{Short, Trailing, Expansion, OutOfOrder, NoNull, OutOfMemory, TooMany}
+use Rattle.map_body.specs.declared.fault.MapFault.TheVariants.{Short, Trailing, Expansion, OutOfOrder, NoNull}
+use Rattle.map_body.specs.declared.fault.MapFault.TheVariants.{OutOfMemory, TooMany}
 
 abbrev pub map_fault_number : MapFault → ℕ
 map_fault_number Short = 1

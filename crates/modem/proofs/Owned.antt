@@ -6,7 +6,8 @@ use Rattle.map_body.specs.Body.{Body}
 use Rattle.map_body.specs.Cell.{IsCell}
 use Rattle.map_body.proofs.Callers.{one_body}
 use Rattle.grant_machine.specs.declared.output.Output.{Output}
-use Rattle.grant_machine.specs.declared.output.Output.TheVariants.{Nothing, ChannelSet, Assigned, Map as MapOutput, Refused}
+use Rattle.grant_machine.specs.declared.output.Output.TheVariants.{Nothing, ChannelSet, Assigned, Map as MapOutput}
+use Rattle.grant_machine.specs.declared.output.Output.TheVariants.{Refused}
 use Rattle.grant_machine.specs.Owner.{Owns, IsLeased}
 use Rattle.modem.specs.Held.{Hearing, Held, HeldBy, Gives, WasLeased}
 use Rattle.modem.specs.Owner.{AreSoundOutputs, IsMapOf, IsTimely, HeardFrom}

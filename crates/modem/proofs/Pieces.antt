@@ -1,5 +1,6 @@
 -- The parts of intervals that leases cover have what the intervals have where a lease covers it.
-use Rattle.std.proofs.Common.{◌≡◌, ℕ, suc, ◌+◌, ◌<◌, ◌≤◌, ◌^◌, Bool, true, false, ◌==◌, if◌then◌else◌, min, max, List, [], ◌∷◌, map, Some, None, refl, sym, ◌∙◌, arith, inl, inr, ◌↔◌}
+use Rattle.std.proofs.Common.{◌≡◌, ℕ, suc, ◌+◌, ◌<◌, ◌≤◌, ◌^◌, Bool, true, false, ◌==◌, if◌then◌else◌, min, max, List}
+use Rattle.std.proofs.Common.{[], ◌∷◌, map, Some, None, refl, sym, ◌∙◌, arith, inl, inr, ◌↔◌}
 use Rattle.std.specs.List.{All, filter_map, cons_option}
 use Rattle.std.proofs.lemmas.List.Elements.{All-nil, All-cons, All-append}
 use Rattle.std.proofs.lemmas.Bool.{and_parts, or_cases, or_left, or_right, and_from, eqb-true, eq-eqb}

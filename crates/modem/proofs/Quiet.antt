@@ -1,5 +1,6 @@
 -- What each tick at a minislot does, from what counts there.
-use Rattle.std.proofs.Common.{◌≡◌, ℕ, ◌+◌, ◌≤◌, Bool, true, false, cond, ◌==◌, ◌||◌, not, List, [], ◌∷◌, Option, Some, None, refl, sym, subst, ◌∙◌, ap, arith, inl, inr, ◌⊎◌, ◌↔◌, ◌&&◌, find, MatchBool}
+use Rattle.std.proofs.Common.{◌≡◌, ℕ, ◌+◌, ◌≤◌, Bool, true, false, cond, ◌==◌, ◌||◌, not, List, [], ◌∷◌, Option, Some}
+use Rattle.std.proofs.Common.{None, refl, sym, subst, ◌∙◌, ap, arith, inl, inr, ◌⊎◌, ◌↔◌, ◌&&◌, find, MatchBool}
 use Rattle.std.specs.List.{filter, list_any}
 use Rattle.std.proofs.lemmas.Map.Views.{any-filter_same}
 use Rattle.std.proofs.lemmas.Bool.{and_parts, eqb-true, MatchBool-at_true, MatchBool-at_false}
@@ -14,7 +15,8 @@ use Rattle.modem.specs.declared.known.Want.{Want}
 use Rattle.modem.specs.declared.types.Sending.{Sending}
 use Rattle.modem.specs.declared.types.Sending.TheVariants.{Unicast, Polled, Ranging}
 use Rattle.modem.specs.State.{State, Kept, HasAt, is_own_at, is_own_from}
-use Rattle.modem.specs.Wants.{is_want, is_unsent, is_unsent_on, unsent_of, IsLeastUnsent, own_wants, is_lasting, lasting}
+use Rattle.modem.specs.Wants.{is_want, is_unsent, is_unsent_on, unsent_of, IsLeastUnsent, own_wants, is_lasting}
+use Rattle.modem.specs.Wants.{lasting}
 use Rattle.modem.specs.Ticks.{Ticks, Counts, IsNotAfter, Silent, Polls, Contends, Shares, SendsBy}
 use Rattle.modem.specs.NextEvent.{IsQuiet, EachTick, IsPartOf, Acts}
 use Rattle.modem.specs.Idle.{NoneShares, IsShared, NothingBy, SendsAt, IsIdle, HasSame, CoverSame, HasNoUnsent}

@@ -1,5 +1,7 @@
 -- Old leases count for nothing.
-use Rattle.std.proofs.Common.{◌≡◌, ℕ, ◌+◌, ◌^◌, ◌<◌, ◌≤◌, Bool, true, false, cond, List, [], ◌∷◌, ◌++◌, Some, None, refl, sym, ap, ◌∙◌, arith, ◌⊎◌, inl, inr, ◌↔◌, ◌==◌, ◌&&◌, ◌||◌, not, nat_lt, nat_le, if◌then◌else◌}
+use Rattle.std.proofs.Common.{◌≡◌, ℕ, ◌+◌, ◌^◌, ◌<◌, ◌≤◌, Bool, true, false, cond, List, [], ◌∷◌, ◌++◌, Some, None}
+use Rattle.std.proofs.Common.{refl, sym, ap, ◌∙◌, arith, ◌⊎◌, inl, inr, ◌↔◌, ◌==◌, ◌&&◌, ◌||◌, not, nat_lt, nat_le}
+use Rattle.std.proofs.Common.{if◌then◌else◌}
 use Rattle.std.specs.List.{list_any, AllByRecursion}
 use Rattle.std.proofs.lemmas.List.Folds.{list_any-append}
 use Rattle.std.proofs.lemmas.List.Elements.{filter_agree}
@@ -11,7 +13,8 @@ use Rattle.modem.proofs.Tests.{covers_tells, lasts_tells}
 use Rattle.modem.proofs.Clocks.{clock_of-placed, found_id}
 use Rattle.modem.specs.declared.known.Channel.{Channel}
 use Rattle.modem.specs.declared.known.OwnLease.{OwnLease}
-use Rattle.modem.specs.State.{State, is_of, covers, is_own_at, is_own_from, is_lease, has_lease, with_lease, lease_of, is_recent, recent, channel_of, clock_of, with_channel}
+use Rattle.modem.specs.State.{State, is_of, covers, is_own_at, is_own_from, is_lease, has_lease, with_lease, lease_of}
+use Rattle.modem.specs.State.{is_recent, recent, channel_of, clock_of, with_channel}
 use Rattle.map_body.specs.declared.element.Element.{Element}
 use Rattle.map_body.specs.Rules.{FitsElement}
 use Rattle.map_body.specs.Intervals.{is_null, null_offset}

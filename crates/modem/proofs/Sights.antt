@@ -1,5 +1,6 @@
 -- Sights hold up to the next edge.
-use Rattle.std.proofs.Common.{◌≡◌, ℕ, ◌<◌, Bool, true, cond, ◌==◌, List, map, length, get_or, sym, subst, ap, ◌∙◌, arith, ◌↔◌, Option}
+use Rattle.std.proofs.Common.{◌≡◌, ℕ, ◌<◌, Bool, true, cond, ◌==◌, List, map, length, get_or, sym, subst, ap, ◌∙◌}
+use Rattle.std.proofs.Common.{arith, ◌↔◌, Option}
 use Rattle.std.proofs.lemmas.List.Elements.{All-map}
 use Rattle.std.proofs.lemmas.Bool.{cond_both}
 use Rattle.std.proofs.lemmas.List.{length-map}

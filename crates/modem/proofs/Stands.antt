@@ -1,11 +1,13 @@
 -- What a modem stands for is kept.
-use Rattle.std.proofs.Common.{◌≡◌, ℕ, ◌+◌, ◌≤◌, List, ◌∷◌, Option, Some, Bool, true, inl, inr, refl, sym, subst, ap, ◌∙◌, max, arith, ◌==◌, ◌&&◌, nat_le, false, Result, Ok, Err, IfOk, MatchBool, ◌↔◌}
+use Rattle.std.proofs.Common.{◌≡◌, ℕ, ◌+◌, ◌≤◌, List, ◌∷◌, Option, Some, Bool, true, inl, inr, refl, sym, subst, ap}
+use Rattle.std.proofs.Common.{◌∙◌, max, arith, ◌==◌, ◌&&◌, nat_le, false, Result, Ok, Err, IfOk, MatchBool, ◌↔◌}
 use Rattle.modem.specs.declared.known.Channel.{Channel}
 use Rattle.modem.specs.declared.known.OwnLease.{OwnLease}
 use Rattle.modem.specs.declared.types.Sending.{Sending}
 use Rattle.modem.specs.declared.known.Want.{Want}
 use Rattle.map_body.specs.Sids.{everybody}
-use Rattle.modem.specs.State.{State, HasAt, is_of, covers, is_own_at, is_own_from, with_lease, lease_of, channel_of, clock_of, with_channel, with_ucd}
+use Rattle.modem.specs.State.{State, HasAt, is_of, covers, is_own_at, is_own_from, with_lease, lease_of, channel_of}
+use Rattle.modem.specs.State.{clock_of, with_channel, with_ucd}
 use Rattle.modem.specs.Wants.{lasting}
 use Rattle.modem.specs.Ticks.{Ticks, SendsBy}
 use Rattle.modem.specs.Sights.{IsSeen}
@@ -20,7 +22,8 @@ use Rattle.modem.proofs.Parts.{no_true}
 use Rattle.modem.proofs.Tests.{covers_tells, covers_from, lasts_tells, lasts_from}
 use Rattle.modem.proofs.Clocks.{clock_of-row, clock_of-placed, clock_of-with_ucd, found_id}
 use Rattle.grant_machine.specs.declared.output.Output.{Output}
-use Rattle.grant_machine.specs.declared.output.Output.TheVariants.{Nothing, ChannelSet, Assigned, Map as MapOutput, Refused}
+use Rattle.grant_machine.specs.declared.output.Output.TheVariants.{Nothing, ChannelSet, Assigned, Map as MapOutput}
+use Rattle.grant_machine.specs.declared.output.Output.TheVariants.{Refused}
 use Rattle.modem.specs.declared.types.Heard.{Heard}
 use Rattle.modem.specs.declared.types.Heard.TheVariants.{Taken, NotMine, OtherUcd, Past, Unreadable}
 use Rattle.modem.specs.Held.{HasHeard, Hearing, Gives, GivesCell, Leases, WasLeased, LeasesFrom, WasLeasedFrom, HeldBy}

@@ -1,5 +1,6 @@
 -- What is past, and where a look at a minislot finds its intervals.
-use Rattle.std.proofs.Common.{◌≡◌, ℕ, suc, ◌+◌, ◌-◌, ◌*◌, ◌/◌, ◌^◌, ◌<◌, ◌≤◌, true, ◌||◌, nat_le, nat_lt, leb, List, [], ◌∷◌, refl, take, drop, map, get_or, subst, ◌∙◌, ap, arith, ◌⊎◌, inl, inr, ◌↔◌}
+use Rattle.std.proofs.Common.{◌≡◌, ℕ, suc, ◌+◌, ◌-◌, ◌*◌, ◌/◌, ◌^◌, ◌<◌, ◌≤◌, true, ◌||◌, nat_le, nat_lt, leb, List, []}
+use Rattle.std.proofs.Common.{◌∷◌, refl, take, drop, map, get_or, subst, ◌∙◌, ap, arith, ◌⊎◌, inl, inr, ◌↔◌}
 use Rattle.std.proofs.Math.Nat.{mul-le-mul_left, div-mul-le_self}
 use Rattle.std.proofs.lemmas.Bool.{cases_lt, leb-true, le-leb, and_parts, and_from, or_cases, or_left, or_right}
 use Rattle.std.proofs.lemmas.Bool.Decides.{nat_tests}
@@ -7,7 +8,8 @@ use Rattle.modem.proofs.Parts.{at_least}
 use Rattle.modem.proofs.Order.{HasAt-slice}
 use Rattle.modem.specs.declared.kept.KeptInterval.{KeptInterval}
 use Rattle.modem.specs.State.{Kept, HasAt}
-use Rattle.modem.specs.KeptIntervals.{kept_interval, place, place_of, AreKept, AreBefore, is_past, ArePast, ArePastOf, IsWindow}
+use Rattle.modem.specs.KeptIntervals.{kept_interval, place, place_of, AreKept, AreBefore, is_past, ArePast, ArePastOf}
+use Rattle.modem.specs.KeptIntervals.{IsWindow}
 use Rattle.modem.specs.declared.kept.Window.{Window}
 
 -- what the test says of an interval

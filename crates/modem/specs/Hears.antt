@@ -6,12 +6,14 @@ use Rattle.map_body.specs.Iucs as iucs
 use Rattle.map_body.specs.Sids.{everybody}
 use Rattle.map_body.specs.Body.{Body}
 use Rattle.grant_machine.specs.declared.output.Output.{Output}
-use Rattle.grant_machine.specs.declared.output.Output.TheVariants.{Nothing, ChannelSet, Assigned, Map as MapOutput, Refused}
+use Rattle.grant_machine.specs.declared.output.Output.TheVariants.{Nothing, ChannelSet, Assigned, Map as MapOutput}
+use Rattle.grant_machine.specs.declared.output.Output.TheVariants.{Refused}
 use Rattle.modem.specs.declared.known.Channel.{Channel}
 use Rattle.modem.specs.declared.known.OwnLease.{OwnLease}
 use Rattle.modem.specs.declared.types.Heard.{Heard}
 use Rattle.modem.specs.declared.types.Heard.TheVariants.{Taken, NotMine, OtherUcd, Past, Unreadable}
-use Rattle.modem.specs.State.{State, HasAt, is_own_at, has_lease, with_lease, is_recent, recent, lease_of, with_ucd, with_channel, channel_of, clock_of}
+use Rattle.modem.specs.State.{State, HasAt, is_own_at, has_lease, with_lease, is_recent, recent, lease_of, with_ucd}
+use Rattle.modem.specs.State.{with_channel, channel_of, clock_of}
 use Rattle.modem.specs.Wants.{lasting}
 use Rattle.modem.specs.Intervals.{decided}
 use Rattle.modem.specs.Held.{GivesCell}

@@ -6,7 +6,8 @@ use Rattle.map_body.specs.Cell.{IsCell}
 use Rattle.map_body.specs.Body.{Body}
 use Rattle.map_body.specs.Layout.{IsBody}
 use Rattle.grant_machine.specs.declared.output.Output.{Output}
-use Rattle.grant_machine.specs.declared.output.Output.TheVariants.{Nothing, ChannelSet, Assigned, Map as MapOutput, Refused}
+use Rattle.grant_machine.specs.declared.output.Output.TheVariants.{Nothing, ChannelSet, Assigned, Map as MapOutput}
+use Rattle.grant_machine.specs.declared.output.Output.TheVariants.{Refused}
 use Rattle.modem.specs.declared.types.Heard.{Heard}
 use Rattle.modem.specs.declared.types.Heard.TheVariants.{Taken}
 use Rattle.modem.specs.declared.types.Sending.{Sending}

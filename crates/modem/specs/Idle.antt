@@ -1,5 +1,6 @@
 -- What private calls find at a minislot, and up to the next at which it may differ.
-use Rattle.std.specs.Prelude.{◌≡◌, ℕ, ◌+◌, ◌<◌, ◌≤◌, true, false, List, Option, Some, None, ◌⊎◌, ◌↔◌, MatchBool, Contains}
+use Rattle.std.specs.Prelude.{◌≡◌, ℕ, ◌+◌, ◌<◌, ◌≤◌, true, false, List, Option, Some, None, ◌⊎◌, ◌↔◌, MatchBool}
+use Rattle.std.specs.Prelude.{Contains}
 use Rattle.map_body.specs.Iucs as iucs
 use Rattle.map_body.specs.Sids.{everybody}
 use Rattle.modem.specs.declared.action.Action.{Action}

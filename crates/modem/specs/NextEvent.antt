@@ -1,5 +1,6 @@
 -- What a modem does next on a channel, and which ticks may be left out.
-use Rattle.std.specs.Prelude.{◌≡◌, ℕ, ◌+◌, ◌^◌, ◌<◌, ◌≤◌, true, false, max, ◌↔◌, List, [], ◌∷◌, Option, None, Some, Contains, zero, suc}
+use Rattle.std.specs.Prelude.{◌≡◌, ℕ, ◌+◌, ◌^◌, ◌<◌, ◌≤◌, true, false, max, ◌↔◌, List, [], ◌∷◌, Option, None, Some}
+use Rattle.std.specs.Prelude.{Contains, zero, suc}
 use Rattle.std.specs.List.{list_any}
 use Rattle.map_body.specs.Iucs as iucs
 use Rattle.modem.specs.declared.types.Sending.{Sending}

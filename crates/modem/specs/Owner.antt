@@ -4,7 +4,8 @@ use Rattle.minislot_time.specs.Wire.{wire}
 use Rattle.map_body.specs.Body.{Body}
 use Rattle.map_body.specs.Layout.{IsBody}
 use Rattle.grant_machine.specs.declared.output.Output.{Output}
-use Rattle.grant_machine.specs.declared.output.Output.TheVariants.{Nothing, ChannelSet, Assigned, Map as MapOutput, Refused}
+use Rattle.grant_machine.specs.declared.output.Output.TheVariants.{Nothing, ChannelSet, Assigned, Map as MapOutput}
+use Rattle.grant_machine.specs.declared.output.Output.TheVariants.{Refused}
 use Rattle.grant_machine.specs.Owner.{Owns}
 use Rattle.modem.specs.Held.{Hearing}
 

@@ -1,5 +1,6 @@
 -- What a modem found when it looked at a channel, and where that holds.
-use Rattle.std.specs.Prelude.{◌≡◌, ℕ, ◌+◌, ◌*◌, ◌<◌, ◌≤◌, ◌↔◌, true, false, ◌==◌, ◌&&◌, nat_le, Bool, if◌then◌else◌, List, length, map, Option, None}
+use Rattle.std.specs.Prelude.{◌≡◌, ℕ, ◌+◌, ◌*◌, ◌<◌, ◌≤◌, ◌↔◌, true, false, ◌==◌, ◌&&◌, nat_le, Bool, if◌then◌else◌}
+use Rattle.std.specs.Prelude.{List, length, map, Option, None}
 use Rattle.std.specs.List.{All}
 use Rattle.map_body.specs.Iucs as iucs
 use Rattle.map_body.specs.Sids.{everybody}

@@ -1,7 +1,8 @@
 //! Intervals that a modem keeps: one for each element that a map gave, in the order of their channels and,
 //! of one channel, of their starts.
 
-ghost use Rattle.std.specs.Prelude.{◌≡◌, ℕ, ◌+◌, ◌*◌, ◌<◌, ◌≤◌, ◌^◌, ◌↔◌, ◌⊎◌, List, ◌++◌, ◌∷◌, [], filter, map, take, drop, true, false, length, vec_len, vec_capacity, ltb, leb};
+ghost use Rattle.std.specs.Prelude.{◌≡◌, ℕ, ◌+◌, ◌*◌, ◌<◌, ◌≤◌, ◌^◌, ◌↔◌, ◌⊎◌, List, ◌++◌, ◌∷◌, [], filter, map, take};
+ghost use Rattle.std.specs.Prelude.{drop, true, false, length, vec_len, vec_capacity, ltb, leb};
 ghost use Rattle.std.specs.Prelude.{IfOk, OnOk, IfSome, IfNone, Contains};
 ghost use Rattle.std.specs.List.{All, list_any, filter_map, AllWithin};
 ghost use Rattle.map_body.specs.Iucs as iucs;
@@ -12,7 +13,9 @@ ghost use Rattle.modem.specs.LetsGo.{old_intervals};
 ghost use Rattle.modem.specs.Sights.{FewOld};
 ghost use Rattle.modem.specs.State.{Kept, HasAt, IsAt};
 ghost use Rattle.modem.specs.Idle.{HasSame, IsBefore};
-ghost use Rattle.modem.specs.KeptIntervals.{kept_interval, interval_of, place, place_of, AreKept, AreBefore, is_past, ArePast, IsWindow, IsShort, is_live, covers, is_at, is_shared, piece, covered, IsOfChannel, KeepsFrom};
+ghost use Rattle.modem.specs.KeptIntervals.{kept_interval, interval_of, place, place_of, AreKept, AreBefore, is_past};
+ghost use Rattle.modem.specs.KeptIntervals.{ArePast, IsWindow, IsShort, is_live, covers, is_at, is_shared, piece};
+ghost use Rattle.modem.specs.KeptIntervals.{covered, IsOfChannel, KeepsFrom};
 ghost use Rattle.modem.specs.Ticks.{Counts, IsNotAfter};
 
 use crate::edges::sooner;

@@ -1,7 +1,8 @@
 //! The leases of a modem's SIDs, over slices.
 
 ghost use Rattle.std.specs.Prelude.{◌≡◌, ℕ, ◌<◌, ◌≤◌, ◌^◌, IfSome, IsErr, OnErr, OnOk, false, true};
-ghost use Rattle.modem.specs.State.{is_of, is_lease, covers, has_lease, is_own_at, is_own_from, is_recent, recent, with_lease};
+ghost use Rattle.modem.specs.State.{is_of, is_lease, covers, has_lease, is_own_at, is_own_from, is_recent, recent};
+ghost use Rattle.modem.specs.State.{with_lease};
 ghost use Rattle.modem.specs.Idle.{IsBefore, IsSameIn, CoverSame};
 
 use crate::edges::sooner;

@@ -1,10 +1,13 @@
 //! The modem core, which keeps one interval for each element that it was given, and lets go of those that have ended.
 
-ghost use Rattle.std.specs.Prelude.{◌≡◌, ℕ, ◌+◌, ◌^◌, ◌<◌, ◌≤◌, ◌↔◌, map, max, None, Some, Ok, Err, OnOk, OnErr, IfOk, IfErr, IfSome, IfNone, IsOkAnd, IsErr, List, Contains, Option, true, false, ◌∷◌, ◌++◌, [], ◌⊎◌, ◌==◌, MatchBool};
+ghost use Rattle.std.specs.Prelude.{◌≡◌, ℕ, ◌+◌, ◌^◌, ◌<◌, ◌≤◌, ◌↔◌, map, max, None, Some, Ok, Err, OnOk, OnErr, IfOk};
+ghost use Rattle.std.specs.Prelude.{IfErr, IfSome, IfNone, IsOkAnd, IsErr, List, Contains, Option, true, false, ◌∷◌};
+ghost use Rattle.std.specs.Prelude.{◌++◌, [], ◌⊎◌, ◌==◌, MatchBool};
 ghost use Rattle.std.specs.Option.{option_map};
 ghost use Rattle.std.specs.List.{list_any};
 ghost use Rattle.map_body.specs.Layout.{IsBody};
-ghost use Rattle.modem.specs.State.{new_modem, channel_clock, channel_of, clock_of, has_lease, is_own_from, is_recent, with_ucd, HasAt};
+ghost use Rattle.modem.specs.State.{new_modem, channel_clock, channel_of, clock_of, has_lease, is_own_from, is_recent};
+ghost use Rattle.modem.specs.State.{with_ucd, HasAt};
 ghost use Rattle.modem.specs.Held.{HasHeard, Hearing, Held, unicast_sid};
 ghost use Rattle.modem.specs.Hears.{Hears, HearsMap, IsDue, MayGrow, Passes, Takes, leases_heard};
 ghost use Rattle.modem.specs.Wants.{is_own_now, is_want, lasting, want_refusal, new_want};

@@ -1,11 +1,13 @@
 //! What a modem found when it looked at a channel. It holds up to the next minislot at which an interval begins, is
 //! over or becomes old, so that few ticks have to look.
 
-ghost use Rattle.std.specs.Prelude.{◌≡◌, ℕ, ◌+◌, ◌<◌, ◌≤◌, ◌^◌, ◌==◌, ◌↔◌, if◌then◌else◌, map, List, IfSome, OnOk, OnErr};
+ghost use Rattle.std.specs.Prelude.{◌≡◌, ℕ, ◌+◌, ◌<◌, ◌≤◌, ◌^◌, ◌==◌, ◌↔◌, if◌then◌else◌, map, List, IfSome, OnOk};
+ghost use Rattle.std.specs.Prelude.{OnErr};
 ghost use Rattle.modem.specs.declared.kept.KeptInterval.{KeptInterval};
 ghost use Rattle.modem.specs.Idle.{IsBefore};
 ghost use Rattle.modem.specs.KeptIntervals.{kept_interval, AreKept, ArePast, KeepsFrom};
-ghost use Rattle.modem.specs.Sights.{IsFew, AreSeen, IsSeen, Holds, AreSights, has_begun, with_sight, nowhere, forgotten};
+ghost use Rattle.modem.specs.Sights.{IsFew, AreSeen, IsSeen, Holds, AreSights, has_begun, with_sight, nowhere};
+ghost use Rattle.modem.specs.Sights.{forgotten};
 
 use crate::edges::sooner;
 use crate::kept::{self, KeptInterval, LIMIT};

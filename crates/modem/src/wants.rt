@@ -1,10 +1,12 @@
 //! A modem's wants, over slices.
 
-ghost use Rattle.std.specs.Prelude.{◌≡◌, ◌+◌, ◌-◌, ◌<◌, ◌==◌, ◌&&◌, if◌then◌else◌, List, [], ◌∷◌, ◌++◌, true, false, IfOk, IfSome, IfNone, Option, Some, None};
+ghost use Rattle.std.specs.Prelude.{◌≡◌, ◌+◌, ◌-◌, ◌<◌, ◌==◌, ◌&&◌, if◌then◌else◌, List, [], ◌∷◌, ◌++◌, true, false};
+ghost use Rattle.std.specs.Prelude.{IfOk, IfSome, IfNone, Option, Some, None};
 ghost use Rattle.std.specs.List.{filter_map, list_any};
 ghost use Rattle.modem.specs.declared.known.Want.{Want};
 ghost use Rattle.modem.specs.State.{is_own_at, is_own_from};
-ghost use Rattle.modem.specs.Wants.{is_want, is_unsent, is_unsent_on, unsent_of, with_want, leads, IsLeastUnsent, own_wants, is_lasting, lasting};
+ghost use Rattle.modem.specs.Wants.{is_want, is_unsent, is_unsent_on, unsent_of, with_want, leads, IsLeastUnsent};
+ghost use Rattle.modem.specs.Wants.{own_wants, is_lasting, lasting};
 ghost use Rattle.map_body.specs.Intervals.{intervals};
 ghost use Rattle.modem.specs.Intervals.{is_granted, is_pending, is_acknowledged, lost, decided};
 ghost use Rattle.modem.specs.Ticks.{backoff_number, Polls, Contends, SendsBy, Shares};

@@ -1,5 +1,6 @@
 -- A node that prepares, votes, counts and learns does what keeps the invariant.
-use Rattle.std.proofs.Common.{◌≡◌, inl, inr, ⊎_elim, ℕ, ◌<◌, ◌≤◌, nat_lt, nat_le, ◌==◌, List, [], ◌∷◌, ◌++◌, take, refl, sym, ap, ◌∙◌, subst, arith, Option, Some, None, slice_get}
+use Rattle.std.proofs.Common.{◌≡◌, inl, inr, ⊎_elim, ℕ, ◌<◌, ◌≤◌, nat_lt, nat_le, ◌==◌, List, [], ◌∷◌, ◌++◌, take, refl}
+use Rattle.std.proofs.Common.{sym, ap, ◌∙◌, subst, arith, Option, Some, None, slice_get}
 use Rattle.std.proofs.lemmas.Bool.{cond_both, ltb-true, ltb-false, eqb-true, le-leb}
 use Rattle.ballots.specs.declared.letters.Cast.{Cast}
 use Rattle.ballots.specs.declared.letters.Note.{Note}
@@ -17,7 +18,8 @@ use Rattle.std.specs.BTreeMap.{is_at}
 use Rattle.std.specs.Ordering.{nat_cmp}
 use Rattle.node.specs.View.{View, Standing}
 use Rattle.node.specs.View.Standing.{Running}
-use Rattle.node.specs.Step.{nothing, sends, writes, learns, known, letter, to_all, known_letters, first_known, letters_told, prepare, tell, vote_at, accept}
+use Rattle.node.specs.Step.{nothing, sends, writes, learns, known, letter, to_all, known_letters, first_known}
+use Rattle.node.specs.Step.{letters_told, prepare, tell, vote_at, accept}
 use Rattle.network_script.proofs.Invariant.{IsProposed, PromiseOk, OwnOk, WriteOk, RoleOk, UpOk, LetterOk, Invariant}
 use Rattle.network_script.proofs.Kept.{NewLetters}
 use Rattle.network_script.proofs.Lists.{in_append, in_filter, in_take, into_filter}

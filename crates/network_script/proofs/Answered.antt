@@ -1,5 +1,7 @@
 -- Each event can be answered: the computed run of a script in which nothing fails is a run.
-use Rattle.std.proofs.Common.{◌≡◌, ◌⊎◌, inl, inr, ℕ, ◌+◌, ◌-◌, ◌*◌, ◌/◌, ◌%◌, ◌^◌, ◌<◌, ◌≤◌, max, nat_lt, nat_le, List, [], ◌++◌, length, if◌then◌else◌, refl, sym, ◌∙◌, ap, arith, append-nil, Option, Some, None, Result, Ok, Err, slice_get}
+use Rattle.std.proofs.Common.{◌≡◌, ◌⊎◌, inl, inr, ℕ, ◌+◌, ◌-◌, ◌*◌, ◌/◌, ◌%◌, ◌^◌, ◌<◌, ◌≤◌, max, nat_lt, nat_le, List}
+use Rattle.std.proofs.Common.{[], ◌++◌, length, if◌then◌else◌, refl, sym, ◌∙◌, ap, arith, append-nil, Option, Some}
+use Rattle.std.proofs.Common.{None, Result, Ok, Err, slice_get}
 use Rattle.std.proofs.lemmas.Bool.{cond_both, ltb-true, ltb-false, leb-true, leb-false}
 use Rattle.std.proofs.lemmas.Option.{slice_get_within}
 use Rattle.ballots.specs.Ballots.{IsBallotOf, IsLeastAbove, NoneAbove}

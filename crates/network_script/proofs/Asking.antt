@@ -1,5 +1,7 @@
 -- What an event owes, by what it asks of a node.
-use Rattle.std.proofs.Common.{◌≡◌, ◌<◌, ◌≤◌, ◌++◌, inl, inr, ℕ, List, [], ◌∷◌, Option, Some, None, Bool, true, false, map, length, get_or, slice_get, slice_set, refl, sym, ap, ◌∙◌, subst, arith, is_ok, if◌then◌else◌, Result, Ok, Err, append_assoc, append-nil}
+use Rattle.std.proofs.Common.{◌≡◌, ◌<◌, ◌≤◌, ◌++◌, inl, inr, ℕ, List, [], ◌∷◌, Option, Some, None, Bool, true, false}
+use Rattle.std.proofs.Common.{map, length, get_or, slice_get, slice_set, refl, sym, ap, ◌∙◌, subst, arith, is_ok}
+use Rattle.std.proofs.Common.{if◌then◌else◌, Result, Ok, Err, append_assoc, append-nil}
 use Rattle.std.specs.Prelude.{OnErr, OnOk}
 use Rattle.std.proofs.lemmas.List.{map-set, map-append, length-map, length-set}
 use Rattle.std.proofs.lemmas.Option.{slice_get_past, slice_get_read}
@@ -34,10 +36,12 @@ use Rattle.network_script.specs.Next.{Comes, Next, OfNode, OnModems, after, taki
 use Rattle.network_script.specs.Outward.{OfModems, Outward, SeenNext, SeenOfNode, SeenToCome, outward}
 use Rattle.network_script.specs.Seats.{AllHonest, AllKeepTrust, AreStandings}
 use Rattle.network_script.specs.World.{Written, released_by}
-use Rattle.network_script.specs.Worlds.{AreHonest, Happens, letters_of, outputs_of, receivers_of, seats_of, transmissions_of, written}
+use Rattle.network_script.specs.Worlds.{AreHonest, Happens, letters_of, outputs_of, receivers_of, seats_of}
+use Rattle.network_script.specs.Worlds.{transmissions_of, written}
 use Rattle.network_script.proofs.Counted.{count_one, count_still, quiet_answer}
 use Rattle.network_script.proofs.Lists.{get_left}
-use Rattle.network_script.proofs.Places.{each_at, each_length, each_set, honest_at, honest_before, seen_at, trust_at, trust_same, who_at}
+use Rattle.network_script.proofs.Places.{each_at, each_length, each_set, honest_at, honest_before, seen_at, trust_at}
+use Rattle.network_script.proofs.Places.{trust_same, who_at}
 use Rattle.network_script.proofs.Same.{same_world}
 
 -- one more output is numbered, and one less is left

@@ -1,11 +1,13 @@
 -- What holds of a history still holds once a node's entry that may follow has joined it.
-use Rattle.std.proofs.Common.{◌≡◌, ◌≢◌, ◌⊎◌, inl, inr, ⊎_elim, ℕ, ◌<◌, List, ◌∷◌, ◌++◌, refl, sym, ◌∙◌, ap, Option, Some}
+use Rattle.std.proofs.Common.{◌≡◌, ◌≢◌, ◌⊎◌, inl, inr, ⊎_elim, ℕ, ◌<◌, List, ◌∷◌, ◌++◌, refl, sym, ◌∙◌, ap, Option}
+use Rattle.std.proofs.Common.{Some}
 use Rattle.ballots.specs.Ballots.{ballot_node}
 use Rattle.ballots.specs.declared.letters.Cast.{Cast}
 use Rattle.ballots.specs.declared.letters.Note.{Note}
 use Rattle.ballots.specs.declared.letters.Letter.{Letter}
 use Rattle.ballots.specs.declared.letters.Note.TheVariants.{Promise, Accept, Voted, Known}
-use Rattle.ballots.specs.Voting.{Entry, node_of, IsIn, Quorum, IsOf, NoneBelow, HighestBelow, IsSafe, IsChosen, MayFollow}
+use Rattle.ballots.specs.Voting.{Entry, node_of, IsIn, Quorum, IsOf, NoneBelow, HighestBelow, IsSafe, IsChosen}
+use Rattle.ballots.specs.Voting.{MayFollow}
 use Rattle.ballots.specs.Voting.Entry.{Promised, Vote}
 use Rattle.ballots.proofs.Callers.{old_vote}
 use Rattle.acceptor.specs.Content.{Content, Write}
@@ -14,7 +16,8 @@ use Rattle.proposer.specs.declared.role.Role.{Role}
 use Rattle.node.specs.View.{Standing}
 use Rattle.proposer.specs.declared.role.Role.TheVariants.{Idle, Preparing, Leading}
 use Rattle.node.specs.View.Standing.{Running, Stopped}
-use Rattle.network_script.proofs.Invariant.{IsProposed, ContentOk, PromiseOk, CountedOk, LeadsOk, RoleOk, WriteOk, NodeOk, LetterOk}
+use Rattle.network_script.proofs.Invariant.{IsProposed, ContentOk, PromiseOk, CountedOk, LeadsOk, RoleOk, WriteOk}
+use Rattle.network_script.proofs.Invariant.{NodeOk, LetterOk}
 use Rattle.network_script.proofs.Lists.{in_left}
 
 -- the history new is old, perhaps with one entry of node k more

@@ -1,5 +1,6 @@
 -- A change of one node keeps the invariant: a write that it may make, letters that say what holds, and a state that agrees with the new history.
-use Rattle.std.proofs.Common.{◌≡◌, ◌≢◌, ◌⊎◌, inl, inr, ⊎_elim, ℕ, List, [], ◌++◌, sym, ◌∙◌, subst, Option, Some, slice_get, slice_set, append-nil}
+use Rattle.std.proofs.Common.{◌≡◌, ◌≢◌, ◌⊎◌, inl, inr, ⊎_elim, ℕ, List, [], ◌++◌, sym, ◌∙◌, subst, Option, Some}
+use Rattle.std.proofs.Common.{slice_get, slice_set, append-nil}
 use Rattle.ballots.specs.Ballots.{ballot_node}
 use Rattle.ballots.specs.declared.letters.Letter.{Letter}
 use Rattle.ballots.specs.Voting.{Entry, IsIn}

@@ -1,5 +1,6 @@
 -- A node that counts a vote, or hears of a higher ballot, does what keeps the invariant.
-use Rattle.std.proofs.Common.{◌≡◌, ⊎_elim, ℕ, ◌*◌, true, cond, nat_lt, List, [], refl, sym, subst, Option, Some, None, slice_get}
+use Rattle.std.proofs.Common.{◌≡◌, ⊎_elim, ℕ, ◌*◌, true, cond, nat_lt, List, [], refl, sym, subst, Option, Some, None}
+use Rattle.std.proofs.Common.{slice_get}
 use Rattle.std.proofs.lemmas.Bool.{cond_both, ltb-true}
 use Rattle.ballots.specs.declared.letters.Letter.{Letter}
 use Rattle.ballots.specs.Voting.{Entry, IsIn, IsChosen, count_below}

@@ -1,5 +1,6 @@
 -- Each event of a run keeps the invariant, and moves the world in one of few ways.
-use Rattle.std.proofs.Common.{◌∙◌, ap, ◌≡◌, ◌⊎◌, inl, inr, ⊎_elim, ℕ, ◌<◌, max, not, ◌&&◌, nat_lt, ◌==◌, List, ◌++◌, drop, refl, sym, subst, Option, Some, None, Result, Ok, Err, slice_get, slice_set}
+use Rattle.std.proofs.Common.{◌∙◌, ap, ◌≡◌, ◌⊎◌, inl, inr, ⊎_elim, ℕ, ◌<◌, max, not, ◌&&◌, nat_lt, ◌==◌, List, ◌++◌}
+use Rattle.std.proofs.Common.{drop, refl, sym, subst, Option, Some, None, Result, Ok, Err, slice_get, slice_set}
 use Rattle.std.proofs.lemmas.Bool.{cond_both, and_parts, ltb-true}
 use Rattle.ballots.specs.declared.letters.Note.{Note}
 use Rattle.ballots.specs.declared.letters.Letter.{Letter}
@@ -26,7 +27,8 @@ use Rattle.seats.specs.Modems.{ModemNext, sent_at}
 use Rattle.seats.specs.Moves.{Ask, Move, quiet, lost, Fails, Ends, EndsInCrash, Releases, Starts, MovesUp, MovesDown}
 use Rattle.seats.specs.Moves.Ask.{Call, TakeThenCrash, Release as ReleaseAt, Crash as CrashNow, Restart as StartAgain}
 use Rattle.network_script.specs.Next.{after, OfNode, Comes, OnModems, Next}
-use Rattle.network_script.proofs.After.{after_quiet, after_same, after_write_alone, after_lost, after_whole, after_gives}
+use Rattle.network_script.proofs.After.{after_quiet, after_same, after_write_alone, after_lost, after_whole}
+use Rattle.network_script.proofs.After.{after_gives}
 use Rattle.network_script.proofs.Invariant.{IsProposed, WriteOk, UpOk, DownOk, LetterOk, Invariant}
 use Rattle.network_script.proofs.Lists.{in_left, in_append, in_filter, get_in}
 use Rattle.network_script.proofs.Kept.{goes_quietly}
@@ -34,7 +36,8 @@ use Rattle.network_script.proofs.Sound.{Sound, whole_kept, lost_kept, broken_kep
 use Rattle.network_script.proofs.Acceptors.{nothing_sound, prepare_sound, accept_sound, known_sound, tell_sound}
 use Rattle.network_script.proofs.Learners.{voted_sound, higher_sound}
 use Rattle.network_script.proofs.Proposers.{promise_sound, SoundIfOk, offer_sound, lead_sound}
-use Rattle.network_script.proofs.Outputs.{FromChosen, learned_chosen, in_drop, in_numbered, in_released_by, written_keeps}
+use Rattle.network_script.proofs.Outputs.{FromChosen, learned_chosen, in_drop, in_numbered, in_released_by}
+use Rattle.network_script.proofs.Outputs.{written_keeps}
 
 -- the letter that is taken, if one is
 abbrev taken : Ask → Option Letter

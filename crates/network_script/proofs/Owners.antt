@@ -1,5 +1,6 @@
 -- Over whole runs: what modems hold they own, and what they send they hold.
-use Rattle.std.proofs.Common.{◌≡◌, inl, inr, ⊎_elim, ℕ, zero, suc, ◌-◌, ◌≤◌, List, [], ◌∷◌, ◌++◌, map, refl, sym, ◌∙◌, ap, subst, arith, Some, slice_get, Contains}
+use Rattle.std.proofs.Common.{◌≡◌, inl, inr, ⊎_elim, ℕ, zero, suc, ◌-◌, ◌≤◌, List, [], ◌∷◌, ◌++◌, map, refl, sym, ◌∙◌}
+use Rattle.std.proofs.Common.{ap, subst, arith, Some, slice_get, Contains}
 use Rattle.minislot_time.specs.Wire.{IsNear}
 use Rattle.map_body.specs.Cell.{IsCell}
 use Rattle.flow_state.specs.Limits.{last_sid}
@@ -24,7 +25,8 @@ use Rattle.seats.specs.Receiver.{Receiver, new_receiver}
 use Rattle.seats.specs.Modems.{sent_at}
 use Rattle.seats.proofs.Callers.{new_stands}
 use Rattle.network_script.specs.Next.{Goes, Run}
-use Rattle.network_script.specs.Headline.{OfEveryRun, WithSchedule, HeldIsOwned, ModemsAreNamed, OwnersAreOne, SentIsHeld}
+use Rattle.network_script.specs.Headline.{OfEveryRun, WithSchedule, HeldIsOwned, ModemsAreNamed, OwnersAreOne}
+use Rattle.network_script.specs.Headline.{SentIsHeld}
 use Rattle.network_script.proofs.Drawn.{is_drawn}
 use Rattle.network_script.proofs.Moves.{Moved, next_moves}
 use Rattle.network_script.proofs.Runs.{IsFine, next_fine, opening_fine}

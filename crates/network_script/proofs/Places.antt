@@ -1,8 +1,11 @@
 -- A node at its place in the world.
-use Rattle.std.proofs.Common.{◌≡◌, ◌<◌, ℕ, Bool, zero, suc, List, [], ◌∷◌, ◌++◌, Some, map, length, set, get_or, slice_get, slice_set, refl, sym, ap, ◌∙◌, subst, arith, append_assoc, replicate, true, IsTrue}
+use Rattle.std.proofs.Common.{◌≡◌, ◌<◌, ℕ, Bool, zero, suc, List, [], ◌∷◌, ◌++◌, Some, map, length, set, get_or}
+use Rattle.std.proofs.Common.{slice_get, slice_set, refl, sym, ap, ◌∙◌, subst, arith, append_assoc, replicate, true}
+use Rattle.std.proofs.Common.{IsTrue}
 use Rattle.std.specs.List.{range_with_len}
 use Rattle.std.specs.Prelude.{All}
-use Rattle.std.proofs.lemmas.List.{map-set, set-get_or, set-set, get_or-map, length-set, length-map, get_or-set_same, map_push}
+use Rattle.std.proofs.lemmas.List.{map-set, set-get_or, set-set, get_or-map, length-set, length-map, get_or-set_same}
+use Rattle.std.proofs.lemmas.List.{map_push}
 use Rattle.std.proofs.lemmas.List.Elements.{All-set, All-head, All-tail}
 use Rattle.std.proofs.lemmas.List.FromFn.{get_or-map-range_with_len}
 use Rattle.std.proofs.lemmas.Option.{slice_get_read}

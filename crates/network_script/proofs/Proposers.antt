@@ -1,5 +1,7 @@
 -- A node that leads, counts promises and proposes does what keeps the invariant.
-use Rattle.std.proofs.Common.{◌≡◌, ◌⊎◌, inl, inr, ⊎_elim, ℕ, ◌+◌, ◌-◌, ◌*◌, ◌<◌, ◌≤◌, true, cond, not, ◌&&◌, nat_lt, nat_eq, ◌==◌, List, [], ◌∷◌, ◌++◌, length, refl, sym, ◌∙◌, ap, subst, arith, Option, Some, None, Result, Ok, Err, slice_get}
+use Rattle.std.proofs.Common.{◌≡◌, ◌⊎◌, inl, inr, ⊎_elim, ℕ, ◌+◌, ◌-◌, ◌*◌, ◌<◌, ◌≤◌, true, cond, not, ◌&&◌, nat_lt}
+use Rattle.std.proofs.Common.{nat_eq, ◌==◌, List, [], ◌∷◌, ◌++◌, length, refl, sym, ◌∙◌, ap, subst, arith, Option, Some}
+use Rattle.std.proofs.Common.{None, Result, Ok, Err, slice_get}
 use Rattle.std.specs.List.{list_any}
 use Rattle.std.proofs.lemmas.Bool.{cond_both, and_parts, or_cases, ltb-true, eqb-true, or_right}
 use Rattle.std.proofs.lemmas.Bool.Decides.{nat_tests}
@@ -20,7 +22,8 @@ use Rattle.proposer.specs.declared.fault.NodeFault.{NodeFault as Fault}
 use Rattle.node.specs.Step.{Outcome, nothing, sends, to_all, proposals, after_promise, promise, offer, limit, lead_with}
 use Rattle.learner.specs.Tally.{is_majority}
 use Rattle.proposer.specs.Joining.{join, place_after, proposal}
-use Rattle.network_script.proofs.Invariant.{IsProposed, PromiseOk, IsCounted, CountedOk, LeadsOk, OwnOk, RoleOk, UpOk, LetterOk, Invariant}
+use Rattle.network_script.proofs.Invariant.{IsProposed, PromiseOk, IsCounted, CountedOk, LeadsOk, OwnOk, RoleOk, UpOk}
+use Rattle.network_script.proofs.Invariant.{LetterOk, Invariant}
 use Rattle.network_script.proofs.Kept.{NewLetters, proposed_split}
 use Rattle.network_script.proofs.Rows.{at_in}
 use Rattle.network_script.proofs.Joins.{HasAbove, join_up, join_in, join_from}

@@ -1,5 +1,6 @@
 -- A run has one list of chosen values; nodes hold its beginnings, and what they release stands in its outputs.
-use Rattle.std.proofs.Common.{◌≡◌, ℕ, List, [], ◌∷◌, ◌++◌, length, map, sym, ◌∙◌, ap, arith, subst, append-nil, Some, slice_get}
+use Rattle.std.proofs.Common.{◌≡◌, ℕ, List, [], ◌∷◌, ◌++◌, length, map, sym, ◌∙◌, ap, arith, subst, append-nil, Some}
+use Rattle.std.proofs.Common.{slice_get}
 use Rattle.std.proofs.lemmas.List.{map-append}
 use Rattle.ballots.specs.Voting.{Entry, IsLegal}
 use Rattle.grant_machine.specs.declared.output.Output.{Output}
@@ -18,7 +19,8 @@ use Rattle.map_body.proofs.Callers.{get_behind}
 use Rattle.network_script.proofs.Lists.{get_left}
 use Rattle.network_script.specs.World.{Written}
 use Rattle.network_script.specs.Next.{Run}
-use Rattle.network_script.specs.Headline.{OfEveryRun, WithSchedule, IsBeginning, IsSchedule, HasOneSchedule, GaplessIsBeginning, ReleasedIsOutput, IsReleasedMap, MapsAreOne, CoversOnce}
+use Rattle.network_script.specs.Headline.{OfEveryRun, WithSchedule, IsBeginning, IsSchedule, HasOneSchedule}
+use Rattle.network_script.specs.Headline.{GaplessIsBeginning, ReleasedIsOutput, IsReleasedMap, MapsAreOne, CoversOnce}
 use Rattle.network_script.proofs.Outputs.{StandsIn, chosen_beginning, learned_chosen, chosen_keeps}
 use Rattle.network_script.proofs.Runs.{run_fine, passes_fine}
 use Rattle.network_script.proofs.Existence.{schedule_exists}

@@ -1,5 +1,6 @@
 -- What a call must do for the invariant to be kept, however the call ends.
-use Rattle.std.proofs.Common.{◌≡◌, ⊎_elim, ℕ, ◌≤◌, List, ◌++◌, refl, sym, ap, subst, arith, Option, Some, None, slice_get, slice_set}
+use Rattle.std.proofs.Common.{◌≡◌, ⊎_elim, ℕ, ◌≤◌, List, ◌++◌, refl, sym, ap, subst, arith, Option, Some, None}
+use Rattle.std.proofs.Common.{slice_get, slice_set}
 use Rattle.ballots.specs.declared.letters.Note.{Note}
 use Rattle.ballots.specs.declared.letters.Letter.{Letter}
 use Rattle.ballots.specs.declared.letters.Note.TheVariants.{Accept}
@@ -11,7 +12,8 @@ use Rattle.learner.specs.Tally.{IsVoteCounted}
 use Rattle.node.specs.View.{View, Standing, started}
 use Rattle.node.specs.View.Standing.{Running, Stopped}
 use Rattle.node.specs.Step.{Outcome}
-use Rattle.network_script.proofs.Invariant.{IsProposed, ContentOk, OwnOk, WriteOk, RoleOk, UpOk, DownOk, LetterOk, Invariant}
+use Rattle.network_script.proofs.Invariant.{IsProposed, ContentOk, OwnOk, WriteOk, RoleOk, UpOk, DownOk, LetterOk}
+use Rattle.network_script.proofs.Invariant.{Invariant}
 use Rattle.network_script.proofs.Growth.{Grows, role_grows, chosen_grows}
 use Rattle.network_script.proofs.Writes.{write_grows, write_content, write_tried}
 use Rattle.network_script.proofs.Kept.{NewLetters, goes_on, goes_quietly, proposed_split}

@@ -3,7 +3,8 @@ use Rattle.ballots.proofs.Callers.{agreement}
 use Rattle.command_log.specs.Values.{Owner}
 use Rattle.network_script.specs.Headline.{OfEveryRun, WithSchedule, HoldersAreOne, SentByOwner, Headline}
 use Rattle.network_script.proofs.Runs.{history_legal, learned_is_chosen}
-use Rattle.network_script.proofs.Schedule.{one_schedule, gapless_is_beginning, released_is_output, maps_are_one, covers_once}
+use Rattle.network_script.proofs.Schedule.{one_schedule, gapless_is_beginning, released_is_output, maps_are_one}
+use Rattle.network_script.proofs.Schedule.{covers_once}
 pub use Rattle.network_script.proofs.Owners.{held_is_owned, modems_are_named, owners_are_one, sent_is_held}
 
 pub holders_are_one : OfEveryRun HoldersAreOne

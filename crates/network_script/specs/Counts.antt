@@ -1,5 +1,6 @@
 -- How often each node's store failed, which is told whether or not its records are honest.
-use Rattle.std.specs.Prelude.{◌≡◌, ◌≤◌, ◌+◌, ◌-◌, ◌^◌, ◌⊎◌, ℕ, List, ◌∷◌, Option, Some, None, Bool, true, false, map, slice_get, if◌then◌else◌, ◌==◌, ◌&&◌}
+use Rattle.std.specs.Prelude.{◌≡◌, ◌≤◌, ◌+◌, ◌-◌, ◌^◌, ◌⊎◌, ℕ, List, ◌∷◌, Option, Some, None, Bool, true, false, map}
+use Rattle.std.specs.Prelude.{slice_get, if◌then◌else◌, ◌==◌, ◌&&◌}
 use Rattle.acceptor.specs.Faults.{HasRisen}
 use Rattle.node.specs.declared.node.Node.{Ghosts}
 use Rattle.world_events.specs.declared.event.Event.{Event}

@@ -5,7 +5,8 @@ use Rattle.acceptor.specs.Content.{record_write}
 use Rattle.node.specs.View.{Standing}
 use Rattle.node.specs.Calls.Cause.{Lead as AskedToLead, Offer as Offered, Receive as Received, Tell as AskedToTell}
 use Rattle.world_events.specs.declared.event.Event.{Event}
-use Rattle.world_events.specs.declared.event.Event.TheVariants.{Lead, Offer, Tell, Deliver, DeliverThenCrash, Crash, Restart, Release, Hear, Want, Tick}
+use Rattle.world_events.specs.declared.event.Event.TheVariants.{Lead, Offer, Tell, Deliver, DeliverThenCrash, Crash}
+use Rattle.world_events.specs.declared.event.Event.TheVariants.{Restart, Release, Hear, Want, Tick}
 use Rattle.seats.specs.declared.answer.Answer.{Answer}
 use Rattle.seats.specs.declared.answer.Answer.TheVariants.{Refused}
 use Rattle.world_events.specs.declared.refusal.EventRefusal.TheVariants.{NoLetter, NoNode}

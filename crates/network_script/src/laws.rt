@@ -1,7 +1,12 @@
 //! What holds of every run, whatever is lost, repeated and reordered, and whichever nodes crash and restart.
 
-ghost use Rattle.network_script.specs.Headline.{CoversOnce, GaplessIsBeginning, HasOneSchedule, Headline, HeldIsOwned, HistoryIsLegal, HoldersAreOne, LearnedIsChosen, LearnedIsWritten, MapsAreOne, ModemsAreNamed, OfEveryRun, OwnersAreOne, ReleasedIsOutput, RunsJoin, SentByOwner, SentIsHeld, WithSchedule};
-ghost use Rattle.network_script.specs.Examples.{IsRefused, LearnedOutlivesCrash, LeastBallots, OneLeader, ReleasesInOrder, TakesOver, TakesOverAfresh, ToldCatchesUp, TriesHigher, VoteOutlivesCrash};
+ghost use Rattle.network_script.specs.Headline.{CoversOnce, GaplessIsBeginning, HasOneSchedule, Headline, HeldIsOwned};
+ghost use Rattle.network_script.specs.Headline.{HistoryIsLegal, HoldersAreOne, LearnedIsChosen, LearnedIsWritten};
+ghost use Rattle.network_script.specs.Headline.{MapsAreOne, ModemsAreNamed, OfEveryRun, OwnersAreOne, ReleasedIsOutput};
+ghost use Rattle.network_script.specs.Headline.{RunsJoin, SentByOwner, SentIsHeld, WithSchedule};
+ghost use Rattle.network_script.specs.Examples.{IsRefused, LearnedOutlivesCrash, LeastBallots, OneLeader};
+ghost use Rattle.network_script.specs.Examples.{ReleasesInOrder, TakesOver, TakesOverAfresh, ToldCatchesUp};
+ghost use Rattle.network_script.specs.Examples.{TriesHigher, VoteOutlivesCrash};
 ghost use Rattle.network_script.specs.Plain.{EachIsAnswered};
 ghost use Rattle.network_script.specs.Counts.{FewFaults};
 

@@ -107,7 +107,8 @@ impl<N: Node> World<N> {
     ghost use Rattle.network_script.specs.Seats.{AreSeated};
     ghost use Rattle.seats.specs.Receiving.{AreNew, Hold, new_receivers};
     ghost use Rattle.seats.specs.Fresh.{AreFresh};
-    ghost use Rattle.network_script.specs.Worlds.{AreHonest, StandsFor, letters_of, outputs_of, receivers_of, seats_of, transmissions_of};
+    ghost use Rattle.network_script.specs.Worlds.{AreHonest, StandsFor, letters_of, outputs_of, receivers_of, seats_of};
+    ghost use Rattle.network_script.specs.Worlds.{transmissions_of};
 
     /// The opening world of these nodes and modems.
     pub fn new(alloc: Global, nodes: Vec<N>, modems: Vec<Modem>) -> Result<World<N>, OutOfMemory>
@@ -137,7 +138,8 @@ impl<N: Node> World<N> {
     ghost use Rattle.network_script.specs.Outward.{SeenAll};
     ghost use Rattle.network_script.specs.Seats.{AllKeepTrust, AreStandings};
     ghost use Rattle.network_script.specs.World.{Written};
-    ghost use Rattle.network_script.specs.Worlds.{AreHonest, StandsFor, letters_of, node_count, outputs_of, seats_of, transmissions_of};
+    ghost use Rattle.network_script.specs.Worlds.{AreHonest, StandsFor, letters_of, node_count, outputs_of, seats_of};
+    ghost use Rattle.network_script.specs.Worlds.{transmissions_of};
 
     /// Node `k`, if there is one, does what it is asked, and what it gives is kept.
     fn ask(&mut self, k: usize, asked: Asked) -> Answer

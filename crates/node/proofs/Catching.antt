@@ -1,5 +1,7 @@
 -- A node that is told of more catches up.
-use Rattle.std.proofs.Common.{◌≡◌, ◌⊎◌, inl, inr, ⊎_elim, ℕ, zero, suc, ◌<◌, Bool, true, false, ◌&&◌, ◌==◌, nat_lt, nat_le, cond, List, [], ◌∷◌, filter, take, Option, Some, None, refl, sym, ap, ◌∙◌, subst, arith}
+use Rattle.std.proofs.Common.{◌≡◌, ◌⊎◌, inl, inr, ⊎_elim, ℕ, zero, suc, ◌<◌, Bool, true, false, ◌&&◌, ◌==◌, nat_lt}
+use Rattle.std.proofs.Common.{nat_le, cond, List, [], ◌∷◌, filter, take, Option, Some, None, refl, sym, ap, ◌∙◌, subst}
+use Rattle.std.proofs.Common.{arith}
 use Rattle.std.proofs.lemmas.Bool.{cases_order, lt-ltb, eq-eqb}
 use Rattle.ballots.specs.Rows.{at, rows_from}
 use Rattle.ballots.specs.Voting.{IsIn}
@@ -7,7 +9,8 @@ use Rattle.ballots.specs.declared.letters.Letter.{Letter}
 use Rattle.ballots.specs.declared.letters.Note.TheVariants.{Known}
 use Rattle.ballots.proofs.Callers.{at_in, at_put_other, at_put_same, in_put}
 use Rattle.node.specs.View.{View}
-use Rattle.node.specs.Step.{Outcome, first_known, heed, is_heeded, is_place, is_value, known, known_letters, letter, letters_told, nothing, receive}
+use Rattle.node.specs.Step.{Outcome, first_known, heed, is_heeded, is_place, is_value, known, known_letters, letter}
+use Rattle.node.specs.Step.{letters_told, nothing, receive}
 use Rattle.node.specs.CatchesUp.{Agree, AreOfLog, CatchesUp, after_all}
 
 pub in_take : {X : Type 0} (n : ℕ) (xs : List X) (x : X) → IsIn (take n xs) x → IsIn xs x

@@ -1,5 +1,6 @@
 -- How a call of a node that is up ends, by what its records did.
-use Rattle.std.proofs.Common.{◌≡◌, ◌⊎◌, ⊎_elim, inl, inr, refl, sym, ap, subst, true, false, List, None, Result, Ok, Err, Vec, ℕ, [], cond}
+use Rattle.std.proofs.Common.{◌≡◌, ◌⊎◌, ⊎_elim, inl, inr, refl, sym, ap, subst, true, false, List, None, Result, Ok}
+use Rattle.std.proofs.Common.{Err, Vec, ℕ, [], cond}
 use Rattle.ballots.specs.declared.letters.Letter.{Letter}
 use Rattle.acceptor.specs.Content.{Content, after_write}
 use Rattle.acceptor.specs.Found.{Holds, HoldsEither, AddsNothing, FindsSame, Keeps}

@@ -1,5 +1,6 @@
 -- Whether a node is fresh.
-use Rattle.std.proofs.Common.{length, ◌≡◌, inl, ◌↔◌, ℕ, ◌+◌, ◌≤◌, max, Bool, true, false, IsTrue, cond, ◌==◌, ◌&&◌, List, [], ◌∷◌, refl, sym, ap, subst, ◌∙◌, arith, rules, Result, Ok, Err, IfOk, None}
+use Rattle.std.proofs.Common.{length, ◌≡◌, inl, ◌↔◌, ℕ, ◌+◌, ◌≤◌, max, Bool, true, false, IsTrue, cond, ◌==◌, ◌&&◌}
+use Rattle.std.proofs.Common.{List, [], ◌∷◌, refl, sym, ap, subst, ◌∙◌, arith, rules, Result, Ok, Err, IfOk, None}
 use Rattle.std.proofs.lemmas.Bool.{and_from, and_parts, eq-eqb, eqb-true, le-leb}
 use Rattle.std.proofs.lemmas.List.{nil_from_length}
 use Rattle.std.proofs.Math.Logic.{∥∥₁_elim, ∥∥₁_prop}

@@ -1,5 +1,6 @@
 -- A node that is asked to lead.
-use Rattle.std.proofs.Common.{IfErr, Vec, ◌≡◌, ◌⊎◌, inl, inr, ℕ, Bool, IsTrue, ◌+◌, ◌≤◌, ◌<◌, length, List, refl, sym, ap, subst, ◌∙◌, Result, Ok, Err, Some, None, true, false}
+use Rattle.std.proofs.Common.{IfErr, Vec, ◌≡◌, ◌⊎◌, inl, inr, ℕ, Bool, IsTrue, ◌+◌, ◌≤◌, ◌<◌, length, List, refl, sym}
+use Rattle.std.proofs.Common.{ap, subst, ◌∙◌, Result, Ok, Err, Some, None, true, false}
 use Rattle.std.specs.declared.alloc.Global.{Global}
 use Rattle.ballots.specs.Limits.{most_places}
 use Rattle.ballots.specs.Members.{member_count}

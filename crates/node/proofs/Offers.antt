@@ -1,5 +1,6 @@
 -- An offer is the case of the node's table.
-use Rattle.std.proofs.Common.{◌≡◌, ◌⊎◌, inl, inr, List, ℕ, refl, sym, ap, subst, ◌∙◌, Result, Ok, Err, Vec, IfOk, IfErr, OnErr, IsTrue, is_ok, false, rules}
+use Rattle.std.proofs.Common.{◌≡◌, ◌⊎◌, inl, inr, List, ℕ, refl, sym, ap, subst, ◌∙◌, Result, Ok, Err, Vec, IfOk, IfErr}
+use Rattle.std.proofs.Common.{OnErr, IsTrue, is_ok, false, rules}
 use Rattle.std.specs.declared.alloc.Global.{Global}
 use Rattle.ballots.specs.Members.{member_count}
 use Rattle.ballots.specs.declared.letters.Letter.{Letter}

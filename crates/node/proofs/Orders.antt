@@ -1,5 +1,6 @@
 -- Want of memory and a store that fails come after what declines a call.
-use Rattle.std.proofs.Common.{◌≡◌, ◌⊎◌, inl, inr, List, ℕ, ◌<◌, length, true, sym, subst, Result, Ok, Err, Vec, IfErr, IsTrue, is_ok}
+use Rattle.std.proofs.Common.{◌≡◌, ◌⊎◌, inl, inr, List, ℕ, ◌<◌, length, true, sym, subst, Result, Ok, Err, Vec, IfErr}
+use Rattle.std.proofs.Common.{IsTrue, is_ok}
 use Rattle.std.specs.declared.alloc.Global.{Global}
 use Rattle.ballots.specs.Members.{member_count}
 use Rattle.ballots.specs.Limits.{most_places}

@@ -1,5 +1,6 @@
 -- A node that tells another what it has learned is as it was.
-use Rattle.std.proofs.Common.{◌≡◌, ℕ, suc, min, List, [], ◌∷◌, length, take, false, refl, sym, ap, ◌∙◌, subst, Result, Ok, Err, Vec, arith}
+use Rattle.std.proofs.Common.{◌≡◌, ℕ, suc, min, List, [], ◌∷◌, length, take, false, refl, sym, ap, ◌∙◌, subst, Result}
+use Rattle.std.proofs.Common.{Ok, Err, Vec, arith}
 use Rattle.std.proofs.lemmas.List.{length-take}
 use Rattle.std.specs.Prelude.{IfOk, IfErr}
 use Rattle.std.specs.declared.alloc.Global.{Global}

@@ -1,5 +1,6 @@
 -- A proposer's turns are the cases of the node's table.
-use Rattle.std.proofs.Common.{◌≡◌, ℕ, ◌+◌, ◌-◌, Bool, true, false, cond, ◌&&◌, not, ◌==◌, nat_eq, nat_le, nat_lt, List, [], ◌∷◌, length, refl, ap, ◌∙◌, Result, Ok, Err}
+use Rattle.std.proofs.Common.{◌≡◌, ℕ, ◌+◌, ◌-◌, Bool, true, false, cond, ◌&&◌, not, ◌==◌, nat_eq, nat_le, nat_lt, List}
+use Rattle.std.proofs.Common.{[], ◌∷◌, length, refl, ap, ◌∙◌, Result, Ok, Err}
 use Rattle.std.specs.List.{list_any}
 use Rattle.std.proofs.lemmas.Bool.{and_parts}
 use Rattle.ballots.specs.Limits.{most_places, longest_value}
@@ -14,7 +15,8 @@ use Rattle.proposer.specs.declared.role.Role.TheVariants.{Idle, Preparing, Leadi
 use Rattle.proposer.specs.declared.fault.NodeFault.{NodeFault as Fault}
 use Rattle.node.specs.Calls.{IsStop}
 use Rattle.node.specs.View.{View}
-use Rattle.node.specs.Step.{Outcome, nothing, sends, promise, after_promise, offer, proposals, are_votes, is_place, is_value, to_all}
+use Rattle.node.specs.Step.{Outcome, nothing, sends, promise, after_promise, offer, proposals, are_votes, is_place}
+use Rattle.node.specs.Step.{is_value, to_all}
 
 -- what a turn leaves of a view
 abbrev pub turned : View → Turn → Outcome

@@ -1,5 +1,6 @@
 -- How the calls of a node end.
-use Rattle.std.specs.Prelude.{◌≡◌, ◌≢◌, ◌⊎◌, ◌↔◌, ℕ, ◌≤◌, Bool, true, false, IsTrue, List, None, Result, Ok, Err, is_ok, Vec, ◌<◌, length}
+use Rattle.std.specs.Prelude.{◌≡◌, ◌≢◌, ◌⊎◌, ◌↔◌, ℕ, ◌≤◌, Bool, true, false, IsTrue, List, None, Result, Ok, Err, is_ok}
+use Rattle.std.specs.Prelude.{Vec, ◌<◌, length}
 use Rattle.std.specs.declared.alloc.Global.{Global}
 use Rattle.ballots.specs.Limits.{most_places}
 use Rattle.ballots.specs.Rows.{at}

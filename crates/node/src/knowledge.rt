@@ -1,6 +1,7 @@
 //! What a node has learned, and what it releases of it.
 
-ghost use Rattle.std.specs.Prelude.{◌≡◌, ◌+◌, ◌<◌, ◌≤◌, ◌↔◌, IfOk, IfErr, IsTrue, [], Some, None, OnOk, OnErr, OnSome, is_some, option_copied, length};
+ghost use Rattle.std.specs.Prelude.{◌≡◌, ◌+◌, ◌<◌, ◌≤◌, ◌↔◌, IfOk, IfErr, IsTrue, [], Some, None, OnOk, OnErr, OnSome};
+ghost use Rattle.std.specs.Prelude.{is_some, option_copied, length};
 ghost use Rattle.acceptor.specs.Calls.{KeepsTrust};
 ghost use Rattle.acceptor.specs.Content.{Content};
 ghost use Rattle.acceptor.specs.Content.Write.{Learns};

@@ -1,6 +1,7 @@
 //! A node, by what its calls do.
 
-ghost use Rattle.std.specs.Prelude.{◌≡◌, ◌⊎◌, ◌↔◌, ◌<◌, ◌≤◌, ℕ, Bool, List, false, [], IfErr, IfOk, IsOk, IsOkAnd, IsTrue, OnErr, OnOk, Option, length, option_copied, true, Err};
+ghost use Rattle.std.specs.Prelude.{◌≡◌, ◌⊎◌, ◌↔◌, ◌<◌, ◌≤◌, ℕ, Bool, List, false, [], IfErr, IfOk, IsOk, IsOkAnd};
+ghost use Rattle.std.specs.Prelude.{IsTrue, OnErr, OnOk, Option, length, option_copied, true, Err};
 ghost use Rattle.acceptor.specs.Calls.{KeepsTrust};
 ghost use Rattle.acceptor.specs.Content.{no_content};
 ghost use Rattle.ballots.specs.Ballots.{IsLeastAbove, NoneAbove};
@@ -13,7 +14,8 @@ ghost use Rattle.proposer.specs.declared.role.Role.{Role};
 ghost use Rattle.node.specs.Step.{is_heeded, limit, letters_told};
 ghost use Rattle.node.specs.View.{View, Standing, gapless, started, values_from};
 ghost use Rattle.node.specs.View.Standing.{Running};
-ghost use Rattle.node.specs.Calls.{Who, Called, IsNothingNew, Kept, KeptByRestart, Restarts, StopsLast, TakesTurn, TellsFresh, answer, IsStop};
+ghost use Rattle.node.specs.Calls.{Who, Called, IsNothingNew, Kept, KeptByRestart, Restarts, StopsLast, TakesTurn};
+ghost use Rattle.node.specs.Calls.{TellsFresh, answer, IsStop};
 ghost use Rattle.node.specs.Releases.{Releases, outputs};
 ghost use Rattle.node.specs.Calls.Cause.{Receive, Lead, Offer, Tell};
 

@@ -1,6 +1,7 @@
 //! What a node is made of, and what its parts do with letters.
 
-ghost use Rattle.std.specs.Prelude.{◌≡◌, ◌≢◌, ◌==◌, ◌&&◌, ◌++◌, ◌∷◌, [], ◌<◌, ◌≤◌, ◌↔◌, Ok, Err, length, true, false, IsTrue, IfErr, IfOk, IsOk, None, OnErr, OnOk, ℕ, ◌⊎◌, take, vec_capacity, vec_len};
+ghost use Rattle.std.specs.Prelude.{◌≡◌, ◌≢◌, ◌==◌, ◌&&◌, ◌++◌, ◌∷◌, [], ◌<◌, ◌≤◌, ◌↔◌, Ok, Err, length, true, false};
+ghost use Rattle.std.specs.Prelude.{IsTrue, IfErr, IfOk, IsOk, None, OnErr, OnOk, ℕ, ◌⊎◌, take, vec_capacity, vec_len};
 ghost use Rattle.ballots.specs.Ballots.{NoneAbove};
 ghost use Rattle.ballots.specs.Limits.{IsPlace, IsValue, most_places};
 ghost use Rattle.ballots.specs.Members.{member_count};
@@ -10,14 +11,16 @@ ghost use Rattle.node.specs.Answers.{accepted_letters, WroteNothing};
 ghost use Rattle.acceptor.specs.Calls.{Accounts, KeepsTrust};
 ghost use Rattle.acceptor.specs.Content.{Content, no_content};
 ghost use Rattle.acceptor.specs.Found.{Holds, Keeps};
-ghost use Rattle.node.specs.Calls.{IsNothingNew, Kept, KeptByRestart, Restarts, StopsLast, TakesTurn, TellsFresh, answer, IsStop};
+ghost use Rattle.node.specs.Calls.{IsNothingNew, Kept, KeptByRestart, Restarts, StopsLast, TakesTurn, TellsFresh};
+ghost use Rattle.node.specs.Calls.{answer, IsStop};
 ghost use Rattle.node.specs.Calls.Cause.{Lead, Offer};
 ghost use Rattle.node.specs.Releases.{Releases, outputs};
 ghost use Rattle.node.specs.View.{Standing, values_from};
 ghost use Rattle.proposer.specs.Faults.{IsOfLead, TellsSpent};
 ghost use Rattle.proposer.specs.Turns as turn;
 ghost use Rattle.proposer.specs.Turns.{IsNextBallot, is_counted};
-ghost use Rattle.node.specs.Step.{Leads, accept, after_higher, are_votes, first_known, heed, is_sound, known, learns, letter, letters_told, nothing, offer, prepare, promise, to_all, voted};
+ghost use Rattle.node.specs.Step.{Leads, accept, after_higher, are_votes, first_known, heed, is_sound, known, learns};
+ghost use Rattle.node.specs.Step.{letter, letters_told, nothing, offer, prepare, promise, to_all, voted};
 
 use crate::knowledge::Knowledge;
 use crate::letters::{known_letters, one_letter, prepared_note};

@@ -1,5 +1,6 @@
 -- What a line asks that is refused, and that it asks one thing at most.
-use Rattle.std.proofs.Common.{◌≡◌, ◌≢◌, ℕ, ◌+◌, ◌==◌, ◌<◌, ◌≤◌, List, ◌∷◌, ◌++◌, length, Result, Ok, Err, inl, inr, refl, sym, ap, subst, ◌∙◌, get_or, if◌then◌else◌, arith}
+use Rattle.std.proofs.Common.{◌≡◌, ◌≢◌, ℕ, ◌+◌, ◌==◌, ◌<◌, ◌≤◌, List, ◌∷◌, ◌++◌, length, Result, Ok, Err, inl, inr}
+use Rattle.std.proofs.Common.{refl, sym, ap, subst, ◌∙◌, get_or, if◌then◌else◌, arith}
 use Rattle.std.specs.Prelude.{IfErr, IsErr, codes}
 use Rattle.hex.specs.Hex.{decode_of}
 use Rattle.hex.specs.declared.error.FromHexError.{FromHexError}
@@ -15,7 +16,9 @@ use Rattle.node_lines.specs.declared.request.Request.{Request}
 use Rattle.node_lines.specs.declared.request.Request.TheVariants as request
 use Rattle.node_lines.specs.Commands.{command_word, longest_command}
 use Rattle.node_lines.proofs.Commands.{one_text}
-use Rattle.node_lines.specs.Lines.{Asks, AsksNothing, IsCommandOffer, IsDigitsOffer, IsLetterText, IsNoLetter, IsNoLine, IsNumberText, IsRefused, IsTellText, letter_word, offer_word, release_word, tell_word}
+use Rattle.node_lines.specs.Lines.{Asks, AsksNothing, IsCommandOffer, IsDigitsOffer, IsLetterText, IsNoLetter, IsNoLine}
+use Rattle.node_lines.specs.Lines.{IsNumberText, IsRefused, IsTellText, letter_word, offer_word, release_word}
+use Rattle.node_lines.specs.Lines.{tell_word}
 
 same_offer : (a b : List ℕ) → offer_word ++ a ≡ offer_word ++ b → a ≡ b
 same_offer a b e = cc

@@ -1,5 +1,6 @@
 -- A table spells one command at most.
-use Rattle.std.proofs.Common.{◌≡◌, ℕ, if◌then◌else◌, List, [], Option, None, Some, inl, inr, pos, bytes_eq, refl, sym, ap, subst, ◌∙◌, codes}
+use Rattle.std.proofs.Common.{◌≡◌, ℕ, if◌then◌else◌, List, [], Option, None, Some, inl, inr, pos, bytes_eq, refl, sym}
+use Rattle.std.proofs.Common.{ap, subst, ◌∙◌, codes}
 use Rattle.toml.specs.Data.{Data, string, integer, array, item, no_items, get, Members}
 use Rattle.toml.specs.Parse.{parse_document}
 use Rattle.flow_state.specs.declared.channel.Channel.{Channel}
@@ -11,7 +12,8 @@ use Rattle.flow_state.specs.declared.flow.FlowKind.TheVariants.{BestEffort, Ugs,
 use Rattle.flow_state.specs.Limits.{last_time}
 use Rattle.grant_machine.specs.declared.command.Command.{Command}
 use Rattle.grant_machine.specs.declared.command.Command.TheVariants as commands
-use Rattle.script_text.specs.CommandTable.{HasBackoff, HasKeep, HasLast, HasPair, HasPhy, HasService, NamesPhy, SpellsCommand}
+use Rattle.script_text.specs.CommandTable.{HasBackoff, HasKeep, HasLast, HasPair, HasPhy, HasService, NamesPhy}
+use Rattle.script_text.specs.CommandTable.{SpellsCommand}
 use Rattle.node_lines.specs.Commands.{HoldsCommand, IsCommandText}
 
 -- ---- the one command that a table may spell

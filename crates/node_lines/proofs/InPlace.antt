@@ -1,5 +1,6 @@
 -- Digits that are decoded where they are.
-use Rattle.std.proofs.Common.{◌≡◌, ℕ, ◌+◌, ◌-◌, ◌*◌, ◌<◌, ◌≤◌, ◌%◌, ◌/◌, List, [], length, take, drop, Result, Ok, Err, get_or, refl, sym, ap, ◌∙◌, arith}
+use Rattle.std.proofs.Common.{◌≡◌, ℕ, ◌+◌, ◌-◌, ◌*◌, ◌<◌, ◌≤◌, ◌%◌, ◌/◌, List, [], length, take, drop, Result, Ok, Err}
+use Rattle.std.proofs.Common.{get_or, refl, sym, ap, ◌∙◌, arith}
 use Rattle.std.specs.Prelude.{IsErr, slice_index, slice_set}
 use Rattle.std.proofs.lemmas.List.{append-nil, drop_all, get_or-drop, drop-set-lt, drop-drop, length-drop, length-set}
 use Rattle.hex.specs.Hex.{decode_of, decode_pairs, pair_value}

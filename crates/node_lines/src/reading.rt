@@ -1,10 +1,12 @@
 //! What a line asks.
 
-ghost use Rattle.std.specs.Prelude.{◌≡◌, ◌≢◌, ◌++◌, ◌≤◌, ℕ, List, Ok, IfOk, IfErr, IsErr, MatchOption, drop, length, vec_len};
+ghost use Rattle.std.specs.Prelude.{◌≡◌, ◌≢◌, ◌++◌, ◌≤◌, ℕ, List, Ok, IfOk, IfErr, IsErr, MatchOption, drop, length};
+ghost use Rattle.std.specs.Prelude.{vec_len};
 ghost use Rattle.hex.specs.Hex.{decode_of};
 ghost use Rattle.node_lines.specs.declared.fault.LineFault.TheVariants.{NoHex, OutOfMemory};
 ghost use Rattle.node_lines.specs.Commands.{command_word};
-ghost use Rattle.node_lines.specs.Lines.{Asks, AsksNothing, BeginsOther, IsLetterText, IsNoLetter, IsNumberText, IsRefused, IsTellText, letter_word, offer_word};
+ghost use Rattle.node_lines.specs.Lines.{Asks, AsksNothing, BeginsOther, IsLetterText, IsNoLetter, IsNumberText};
+ghost use Rattle.node_lines.specs.Lines.{IsRefused, IsTellText, letter_word, offer_word};
 
 use crate::command::offer_in;
 use crate::digits::decode_in_place;

@@ -1,5 +1,6 @@
 -- Lines that are served in batches.
-use Rattle.std.proofs.Common.{◌≡◌, ◌⊎◌, inl, inr, ℕ, zero, suc, ◌+◌, ◌<◌, List, [], ◌∷◌, ◌++◌, length, take, drop, Result, Ok, Err, IfErr, refl, sym, ap, ◌∙◌, subst, append_assoc, get_or}
+use Rattle.std.proofs.Common.{◌≡◌, ◌⊎◌, inl, inr, ℕ, zero, suc, ◌+◌, ◌<◌, List, [], ◌∷◌, ◌++◌, length, take, drop}
+use Rattle.std.proofs.Common.{Result, Ok, Err, IfErr, refl, sym, ap, ◌∙◌, subst, append_assoc, get_or}
 use Rattle.std.specs.Io.KnownBytes.{Appends, Consumes, Keeps}
 use Rattle.std.specs.List.{flat_map}
 use Rattle.std.proofs.KnownBytes.{Appends-kept, Appends-nil, Appends-trans, Consumes-nil, Consumes-trans}
@@ -13,7 +14,8 @@ use Rattle.node_service.specs.declared.keeper.Keeper.{Ghosts as Keepers}
 use Rattle.node_service.specs.declared.lines.Lines.{Ghosts as Inputs}
 use Rattle.node_service.specs.declared.outbox.Outbox.{Ghosts as Outputs}
 use Rattle.node_lines.specs.declared.writing.Unwritten.{Unwritten}
-use Rattle.node_service.specs.Batched.{BatchedTurns, Closes, Commits, EndsBatchedBy, FailsToClose, FailsWithin, LineTurn, ReadsNoMore, ServesBatched, UnkeptTurns, lines_in, replies_in, text_in}
+use Rattle.node_service.specs.Batched.{BatchedTurns, Closes, Commits, EndsBatchedBy, FailsToClose, FailsWithin}
+use Rattle.node_service.specs.Batched.{LineTurn, ReadsNoMore, ServesBatched, UnkeptTurns, lines_in, replies_in, text_in}
 
 -- commits, and then more of them
 commits_on : {A R : Type 0} (keeper : Keepers A R) (m n : ℕ) (a b c : A) → Commits keeper m a b → Commits keeper n b c → (k : ℕ) × Commits keeper k a c

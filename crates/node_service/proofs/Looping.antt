@@ -1,5 +1,6 @@
 -- What the loop over lines keeps, and how it ends.
-use Rattle.std.proofs.Common.{◌≡◌, ◌⊎◌, inl, inr, ℕ, ◌+◌, ◌-◌, ◌^◌, List, [], ◌∷◌, ◌++◌, length, Bool, true, false, Option, Result, Ok, Err, refl, sym, ap, ◌∙◌, subst, append_assoc, length-append}
+use Rattle.std.proofs.Common.{◌≡◌, ◌⊎◌, inl, inr, ℕ, ◌+◌, ◌-◌, ◌^◌, List, [], ◌∷◌, ◌++◌, length, Bool, true, false}
+use Rattle.std.proofs.Common.{Option, Result, Ok, Err, refl, sym, ap, ◌∙◌, subst, append_assoc, length-append}
 use Rattle.std.specs.Io.KnownBytes.{Consumes}
 use Rattle.std.specs.List.{Contains}
 use Rattle.std.proofs.lemmas.List.{append-nil, map-append}
@@ -12,7 +13,8 @@ use Rattle.node_service.specs.declared.outbox.Outbox.{Ghosts as Outputs}
 use Rattle.node_lines.specs.declared.fault.LineFault.{LineFault}
 use Rattle.node_lines.specs.declared.input.Next.{Next}
 use Rattle.node_lines.specs.declared.input.Next.TheVariants as next
-use Rattle.node_service.specs.Batched.{Closes, EndsBatchedBy, FailsToClose, IsCameOf, LineTurn, ReadsNoMore, Takes, replies_in}
+use Rattle.node_service.specs.Batched.{Closes, EndsBatchedBy, FailsToClose, IsCameOf, LineTurn, ReadsNoMore, Takes}
+use Rattle.node_service.specs.Batched.{replies_in}
 use Rattle.node_service.specs.Came.{next_of}
 use Rattle.node_lines.specs.Input.{ReadsLine}
 use Rattle.node_service.proofs.Batching.{Serving, closed, ends_early, one_waits, served}

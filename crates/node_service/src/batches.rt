@@ -1,11 +1,13 @@
 //! Whatever keeps what it did by commits, over lines: those that have come together share a commit.
 
-ghost use Rattle.std.specs.Prelude.{◌≡◌, ◌⊎◌, ◌++◌, ◌∷◌, [], ℕ, List, Result, IfErr, IfOk, IsTrue, MatchOption, OnErr, OnOk, false, true};
+ghost use Rattle.std.specs.Prelude.{◌≡◌, ◌⊎◌, ◌++◌, ◌∷◌, [], ℕ, List, Result, IfErr, IfOk, IsTrue, MatchOption, OnErr};
+ghost use Rattle.std.specs.Prelude.{OnOk, false, true};
 ghost use Rattle.std.specs.List.{Contains, flat_map};
 ghost use Rattle.std.specs.Io.KnownBytes.{Appends};
 ghost use Rattle.node_lines.specs.Input.{LineComes};
 ghost use Rattle.node_service.specs.Came.{next_of};
-ghost use Rattle.node_service.specs.Batched.{Closes, Commits, EndsBatchedBy, FailsAt, FailsToClose, FailsToTell, FailsWithin, Takes};
+ghost use Rattle.node_service.specs.Batched.{Closes, Commits, EndsBatchedBy, FailsAt, FailsToClose, FailsToTell};
+ghost use Rattle.node_service.specs.Batched.{FailsWithin, Takes};
 ghost use Rattle.node_lines.specs.declared.fault.LineFault.{LineFault as WhyNot};
 ghost use Rattle.node_lines.specs.declared.input.Next.TheVariants as next;
 
@@ -217,7 +219,8 @@ fn close_with<K: Keeper, O: Outbox>(
     requires { K.has_noted keeper.old }
     ensures closed { OnOk result (Closes K.Keeper K.Reply.text O.Outbox (replies.old.items ++ reply.now ∷ []) keeper.old output.old keeper.new output.new) }
     ensures none { OnOk result (replies.new.items ≡ []) }
-    ensures fails { IfErr result (λ end. FailsToClose K.Keeper K.Reply.text O.Outbox (replies.old.items ++ reply.now ∷ []) end keeper.old output.old keeper.new output.new) }
+    ensures fails { IfErr result (λ end. FailsToClose K.Keeper K.Reply.text O.Outbox (replies.old.items ++ reply.now ∷ []) end
+        keeper.old output.old keeper.new output.new) }
 {
     close(alloc, keeper, replies, output)?;
     put_one(alloc, keeper, reply, output)
@@ -233,7 +236,8 @@ fn take<K: Keeper, O: Outbox>(
 ) -> Result<(), BatchedEnd>
     requires { K.has_noted keeper.old }
     ensures taken { OnOk result (Takes K.Keeper K.Reply.text O.Outbox reply replies.old.items keeper.old output.old replies.new.items keeper.new output.new) }
-    ensures fails { IfErr result (λ end. FailsToClose K.Keeper K.Reply.text O.Outbox (replies.old.items ++ reply ∷ []) end keeper.old output.old keeper.new output.new) }
+    ensures fails { IfErr result (λ end. FailsToClose K.Keeper K.Reply.text O.Outbox (replies.old.items ++ reply ∷ []) end
+        keeper.old output.old keeper.new output.new) }
 {
     if replies.is_empty() && !keeper.waits() && !keeper.is_full() {
         return put_one(alloc, keeper, &reply, output);

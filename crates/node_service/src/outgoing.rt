@@ -4,8 +4,10 @@ ghost use Rattle.std.specs.Prelude.{◌≡◌, ℕ, List, Option, [], IfErr, OnO
 ghost use Rattle.std.specs.Io.KnownBytes.{Appends};
 ghost use Rattle.node_lines.specs.declared.writing.Unwritten.{Unwritten as Why};
 ghost use Rattle.node_service.specs.declared.outgoing.Reply.{Reply as Replied};
-ghost use Rattle.node_service.specs.Texts.{acted_text, fresh_text, given_text, head_text, place_line, place_lines, reply_text, restarted_text};
-ghost use Rattle.node_service.specs.Texts.{fault_text, letter_fault_name, line_fault_name, no_letter_text, refused_text};
+ghost use Rattle.node_service.specs.Texts.{acted_text, fresh_text, given_text, head_text, place_line, place_lines};
+ghost use Rattle.node_service.specs.Texts.{reply_text, restarted_text};
+ghost use Rattle.node_service.specs.Texts.{fault_text, letter_fault_name, line_fault_name, no_letter_text};
+ghost use Rattle.node_service.specs.Texts.{refused_text};
 
 use crate::outbox::Told;
 use ballots::{Members, NodeId};

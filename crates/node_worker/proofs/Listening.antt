@@ -1,5 +1,6 @@
 -- What modems have listened to stays so where more was released.
-use Rattle.std.proofs.Common.{◌≡◌, ℕ, zero, suc, ◌<◌, ◌+◌, Some, get_or, take, drop, List, [], ◌∷◌, ◌++◌, length, length-append, map, Option, refl, sym, ap, subst, ◌∙◌, arith, slice_get}
+use Rattle.std.proofs.Common.{◌≡◌, ℕ, zero, suc, ◌<◌, ◌+◌, Some, get_or, take, drop, List, [], ◌∷◌, ◌++◌, length}
+use Rattle.std.proofs.Common.{length-append, map, Option, refl, sym, ap, subst, ◌∙◌, arith, slice_get}
 use Rattle.modem.specs.State.{State}
 use Rattle.world_events.specs.declared.event.Event.{Event}
 use Rattle.world_events.specs.declared.event.Event.TheVariants as event

@@ -1,5 +1,6 @@
 -- Records that go on with their node's next entry.
-use Rattle.std.proofs.Common.{◌≡◌, ℕ, ◌<◌, ◌≤◌, ◌+◌, ◌==◌, List, [], ◌∷◌, ◌++◌, length, take, get_or, sym, ap, subst, ◌∙◌, Some, None, slice_get, ⊎_elim, arith, set, length-append, count_by}
+use Rattle.std.proofs.Common.{◌≡◌, ℕ, ◌<◌, ◌≤◌, ◌+◌, ◌==◌, List, [], ◌∷◌, ◌++◌, length, take, get_or, sym, ap, subst}
+use Rattle.std.proofs.Common.{◌∙◌, Some, None, slice_get, ⊎_elim, arith, set, length-append, count_by}
 use Rattle.std.proofs.lemmas.List.{length-take, take_more, get_or-set_same, get_or-set_other}
 use Rattle.std.proofs.lemmas.List.Sums.{count_by-le-length}
 use Rattle.std.proofs.lemmas.Option.{same_Some, get_or_from_slice_get}

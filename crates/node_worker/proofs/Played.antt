@@ -1,5 +1,6 @@
 -- Sound records, and modems that listened to their outputs, are a run.
-use Rattle.std.proofs.Common.{inl, inr, ◌⊎◌, ◌≡◌, ℕ, zero, suc, ◌<◌, List, [], ◌∷◌, ◌++◌, length, take, map, replicate, refl, sym, ap, subst, ◌∙◌, append_assoc, Some, slice_get, slice_set, ⊎_elim, arith}
+use Rattle.std.proofs.Common.{inl, inr, ◌⊎◌, ◌≡◌, ℕ, zero, suc, ◌<◌, List, [], ◌∷◌, ◌++◌, length, take, map, replicate}
+use Rattle.std.proofs.Common.{refl, sym, ap, subst, ◌∙◌, append_assoc, Some, slice_get, slice_set, ⊎_elim, arith}
 use Rattle.std.proofs.lemmas.Bool.{eq-eqb}
 use Rattle.std.proofs.lemmas.List.{append-nil, length-set, length-replicate}
 use Rattle.std.proofs.lemmas.Option.{slice_get_within, get_or_from_slice_get, slice_get-get_or}
@@ -30,7 +31,8 @@ use Rattle.node_worker.specs.declared.entry.Done.{Done}
 use Rattle.node_worker.specs.Entries.{EntryView}
 use Rattle.node_worker.specs.Replays.{EntryStep, Replays, answer_of, opening}
 use Rattle.node_worker.specs.Legal.{entries_of, letters_of, outputs_of, Comes, IsSound}
-use Rattle.node_worker.specs.Runs.{IsEvent, ReadAs, ListensAlong, sent_by, IsModemEvent, IsOfModem, IsSilent, Listened, HaveListened, SoundIsRun, SoundIsLegal, AreLegal, SendsAsOwner}
+use Rattle.node_worker.specs.Runs.{IsEvent, ReadAs, ListensAlong, sent_by, IsModemEvent, IsOfModem, IsSilent, Listened}
+use Rattle.node_worker.specs.Runs.{HaveListened, SoundIsRun, SoundIsLegal, AreLegal, SendsAsOwner}
 use Rattle.node_worker.proofs.Comparisons.{entries_of_cons}
 use Rattle.node_worker.proofs.Plants.{entries_of_one}
 use Rattle.node_worker.proofs.Wholes.{at_one}

@@ -1,5 +1,6 @@
 -- Letters of a list in two parts, of which the second is looked through first.
-use Rattle.std.proofs.Common.{◌≡◌, ◌∙◌, ◌↔◌, ℕ, ◌<◌, ◌≤◌, List, ◌++◌, take, drop, sym, ap, subst, Contains, ◌⊎◌, ⊎_elim, Option, None, Some, arith}
+use Rattle.std.proofs.Common.{◌≡◌, ◌∙◌, ◌↔◌, ℕ, ◌<◌, ◌≤◌, List, ◌++◌, take, drop, sym, ap, subst, Contains, ◌⊎◌, ⊎_elim}
+use Rattle.std.proofs.Common.{Option, None, Some, arith}
 use Rattle.std.specs.Option.{IfSome}
 use Rattle.std.proofs.lemmas.List.{take-append-drop}
 use Rattle.std.proofs.lemmas.List.Elements.{Contains-append_left, Contains-append_right, Contains-append_cases}

@@ -1,6 +1,7 @@
 //! A node with all that it did.
 
-ghost use Rattle.std.specs.Prelude.{◌≡◌, ◌↔◌, ◌+◌, ◌^◌, [], ◌∷◌, ◌++◌, length, IsTrue, IfOk, IfErr, OnErr, IsOk, true, ◌≤◌, ◌<◌, false, All, map};
+ghost use Rattle.std.specs.Prelude.{◌≡◌, ◌↔◌, ◌+◌, ◌^◌, [], ◌∷◌, ◌++◌, length, IsTrue, IfOk, IfErr, OnErr, IsOk, true};
+ghost use Rattle.std.specs.Prelude.{◌≤◌, ◌<◌, false, All, map};
 ghost use Rattle.std.specs.List.{range_with_len};
 ghost use Rattle.seats.specs.Fresh.{AreFresh};
 ghost use Rattle.acceptor.specs.Faults.{HasRisen};

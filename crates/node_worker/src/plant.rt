@@ -1,6 +1,7 @@
 //! The records of all nodes, in one order.
 
-ghost use Rattle.std.specs.Prelude.{◌≡◌, ◌≢◌, ◌↔◌, [], ◌∷◌, ◌++◌, length, ℕ, IfOk, IfErr, OnOk, OnErr, IsOk, IsTrue, List, ◌≤◌, ◌<◌, ◌⊎◌};
+ghost use Rattle.std.specs.Prelude.{◌≡◌, ◌≢◌, ◌↔◌, [], ◌∷◌, ◌++◌, length, ℕ, IfOk, IfErr, OnOk, OnErr, IsOk, IsTrue};
+ghost use Rattle.std.specs.Prelude.{List, ◌≤◌, ◌<◌, ◌⊎◌};
 ghost use Rattle.ballots.specs.Members.{member_count};
 ghost use Rattle.world_events.specs.declared.event.Event.TheVariants as event;
 ghost use Rattle.seats.specs.declared.answer.Answer.TheVariants.{Refused};

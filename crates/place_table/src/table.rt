@@ -1,6 +1,7 @@
 //! A table of values by place.
 
-ghost use Rattle.std.specs.Prelude.{◌≡◌, ◌≢◌, ◌↔◌, ◌+◌, ◌≤◌, ◌∷◌, ◌++◌, [], IsTrue, IfSome, IfOk, OnOk, OnErr, None, Ok, MatchOption, is_some, option_copied};
+ghost use Rattle.std.specs.Prelude.{◌≡◌, ◌≢◌, ◌↔◌, ◌+◌, ◌≤◌, ◌∷◌, ◌++◌, [], IsTrue, IfSome, IfOk, OnOk, OnErr, None};
+ghost use Rattle.std.specs.Prelude.{Ok, MatchOption, is_some, option_copied};
 ghost use Rattle.std.specs.Fn.{FnOnceReturnsAtMut};
 ghost use Rattle.ballots.specs.Rows.{at, put, rows_from};
 ghost use Rattle.place_table.specs.Entries.{IsNext, numbered};

@@ -1,5 +1,6 @@
 -- Steps of a proposer's turn.
-use Rattle.std.proofs.Common.{◌≡◌, ◌⊎◌, inr, ℕ, suc, ◌+◌, ◌-◌, ◌<◌, max, List, [], ◌∷◌, ◌++◌, refl, sym, ap, subst, ◌∙◌, arith, Result, Ok, Err, OnErr, IfErr}
+use Rattle.std.proofs.Common.{◌≡◌, ◌⊎◌, inr, ℕ, suc, ◌+◌, ◌-◌, ◌<◌, max, List, [], ◌∷◌, ◌++◌, refl, sym, ap, subst, ◌∙◌}
+use Rattle.std.proofs.Common.{arith, Result, Ok, Err, OnErr, IfErr}
 use Rattle.acceptor.proofs.Callers.{still_holds}
 use Rattle.ballots.specs.Ballots.{IsLeastAbove, NoneAbove}
 use Rattle.ballots.specs.Rows.{at}

@@ -1,5 +1,6 @@
 -- What a proposer does in a turn.
-use Rattle.std.specs.Prelude.{◌⊎◌, ℕ, ◌+◌, ◌-◌, ◌*◌, ◌<◌, ◌≤◌, max, Bool, false, ◌&&◌, not, if◌then◌else◌, ◌==◌, nat_eq, nat_lt, List, [], ◌∷◌, length, Some, Result, Ok, Err}
+use Rattle.std.specs.Prelude.{◌⊎◌, ℕ, ◌+◌, ◌-◌, ◌*◌, ◌<◌, ◌≤◌, max, Bool, false, ◌&&◌, not, if◌then◌else◌, ◌==◌, nat_eq}
+use Rattle.std.specs.Prelude.{nat_lt, List, [], ◌∷◌, length, Some, Result, Ok, Err}
 use Rattle.std.specs.List.{list_any}
 use Rattle.ballots.specs.Ballots.{IsLeastAbove, NoneAbove}
 use Rattle.ballots.specs.Limits.{most_places, longest_value}

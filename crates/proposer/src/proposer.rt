@@ -1,6 +1,7 @@
 //! What a proposer does in each turn.
 
-ghost use Rattle.std.specs.Prelude.{◌≡◌, ◌⊎◌, ◌↔◌, ℕ, ◌+◌, ◌-◌, ◌<◌, ◌≤◌, max, false, IsTrue, IsOk, Some, None, Ok, Err, IfOk, IfErr, OnOk, OnErr, is_ok, MatchOption};
+ghost use Rattle.std.specs.Prelude.{◌≡◌, ◌⊎◌, ◌↔◌, ℕ, ◌+◌, ◌-◌, ◌<◌, ◌≤◌, max, false, IsTrue, IsOk, Some, None, Ok};
+ghost use Rattle.std.specs.Prelude.{Err, IfOk, IfErr, OnOk, OnErr, is_ok, MatchOption};
 ghost use Rattle.ballots.specs.Ballots.{NoneAbove};
 ghost use Rattle.ballots.specs.Limits.{most_places};
 ghost use Rattle.ballots.specs.Members.{member_count};
@@ -12,7 +13,8 @@ ghost use Rattle.proposer.specs.Bounds.{in_log};
 ghost use Rattle.proposer.specs.Faults.{BreaksByStop, CountsStops, IsHarmlessStop, IsOfLead, TellsSpent};
 ghost use Rattle.proposer.specs.Letters.{proposals};
 ghost use Rattle.proposer.specs.Roles.{role_after};
-ghost use Rattle.proposer.specs.Turns.{promise, after_promise, is_counted, stays, offer, tries, IsNextBallot, DeclinesToLead, MayHaveTried, limit};
+ghost use Rattle.proposer.specs.Turns.{promise, after_promise, is_counted, stays, offer, tries, IsNextBallot};
+ghost use Rattle.proposer.specs.Turns.{DeclinesToLead, MayHaveTried, limit};
 ghost use Rattle.proposer.specs.declared.role.Role.TheVariants.{Idle};
 
 use crate::fault::NodeFault;

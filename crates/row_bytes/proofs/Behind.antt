@@ -1,5 +1,7 @@
 -- Tables that are read one behind the other are those that were written, and what was written is read again.
-use Rattle.std.proofs.Common.{◌≡◌, ℕ, zero, suc, ◌+◌, ◌-◌, ◌^◌, ◌<◌, ◌≤◌, ◌||◌, ◌==◌, Bool, true, false, cond, eqb, List, [], ◌∷◌, ◌++◌, length, map, slice_get, Some, None, Ok, Err, refl, sym, ap, subst, ◌∙◌, append_assoc, append-nil, inl, inr, arith}
+use Rattle.std.proofs.Common.{◌≡◌, ℕ, zero, suc, ◌+◌, ◌-◌, ◌^◌, ◌<◌, ◌≤◌, ◌||◌, ◌==◌, Bool, true, false, cond, eqb}
+use Rattle.std.proofs.Common.{List, [], ◌∷◌, ◌++◌, length, map, slice_get, Some, None, Ok, Err, refl, sym, ap, subst}
+use Rattle.std.proofs.Common.{◌∙◌, append_assoc, append-nil, inl, inr, arith}
 use Rattle.std.specs.List.{find, flat_map, list_any, AllByRecursion, IsDistinct, range_with_len}
 use Rattle.std.proofs.lemmas.Bool.{eqb-true, le-leb, false_from_ne_true}
 use Rattle.std.proofs.lemmas.List.{length-map, nil_from_length}
@@ -17,7 +19,8 @@ use Rattle.row_bytes.specs.declared.fault.RowsFault.TheVariants.{Trailing}
 use Rattle.row_bytes.specs.Spelling.{Whole, number_2, whole_of, table_spelling, whole_spelling}
 use Rattle.row_bytes.specs.Fits.{FitsFlow, FitsLease, FitsRequest, FitsTable}
 use Rattle.row_bytes.specs.Reading.{◌>>=◌, AreBytes, Read, lease_of_sid, number_2_at, whole_at}
-use Rattle.row_bytes.specs.Tables.{AreRead, IsFirmBehind, ReadsAll, ReadsOn, ReadsTables, Spells, SpellsNone, at_end, table_of_whole}
+use Rattle.row_bytes.specs.Tables.{AreRead, IsFirmBehind, ReadsAll, ReadsOn, ReadsTables, Spells, SpellsNone, at_end}
+use Rattle.row_bytes.specs.Tables.{table_of_whole}
 use Rattle.row_bytes.proofs.Numbers.{Begins, Begins-none, Begins-then, again_2, begins_2, good_ok, ok_is}
 use Rattle.row_bytes.proofs.Items.{AllFrom}
 use Rattle.row_bytes.proofs.Parts.{AreNumbered, IsFlow, IsLease, IsRequest}

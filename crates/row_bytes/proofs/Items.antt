@@ -1,10 +1,12 @@
 -- Items that are read one after the other, as a loop does; and what is read is what was written, and is read again.
-use Rattle.std.proofs.Common.{◌≡◌, ℕ, zero, suc, ◌-◌, ◌+◌, ◌≤◌, ◌<◌, List, [], ◌∷◌, ◌++◌, length, slice_get, Some, Ok, Err, refl, sym, ap, subst, ◌∙◌, append_assoc, arith}
+use Rattle.std.proofs.Common.{◌≡◌, ℕ, zero, suc, ◌-◌, ◌+◌, ◌≤◌, ◌<◌, List, [], ◌∷◌, ◌++◌, length, slice_get, Some, Ok}
+use Rattle.std.proofs.Common.{Err, refl, sym, ap, subst, ◌∙◌, append_assoc, arith}
 use Rattle.std.specs.List.{flat_map, AllByRecursion}
 use Rattle.std.proofs.lemmas.List.{append-nil}
 use Rattle.std.proofs.lemmas.List.Concat.{flat_map-cons}
 use Rattle.row_bytes.specs.declared.fault.RowsFault.{RowsFault}
-use Rattle.row_bytes.specs.declared.fault.RowsFault.TheVariants.{Short, Trailing, NoChannel, NoFlow, NoRequest, NotFirm, OutOfMemory}
+use Rattle.row_bytes.specs.declared.fault.RowsFault.TheVariants.{Short, Trailing, NoChannel, NoFlow, NoRequest, NotFirm}
+use Rattle.row_bytes.specs.declared.fault.RowsFault.TheVariants.{OutOfMemory}
 use Rattle.row_bytes.specs.Reading.{◌>>=◌, AreBytes, Read, FailsReading, items_in}
 use Rattle.row_bytes.proofs.Numbers.{bind_ok, ok_is, Begins, Begins-none, Begins-then}
 

@@ -1,5 +1,7 @@
 -- A channel, a lease, a flow and a request that are read are those that were written, and what was written is read again.
-use Rattle.std.proofs.Common.{◌≡◌, ℕ, zero, suc, ◌+◌, ◌-◌, ◌^◌, ◌<◌, ◌≤◌, ◌==◌, Bool, true, false, cond, List, [], ◌∷◌, ◌++◌, Option, Some, None, Ok, Err, refl, sym, ap, subst, ◌∙◌, append_assoc, slice_get, arith}
+use Rattle.std.proofs.Common.{◌≡◌, ℕ, zero, suc, ◌+◌, ◌-◌, ◌^◌, ◌<◌, ◌≤◌, ◌==◌, Bool, true, false, cond, List, [], ◌∷◌}
+use Rattle.std.proofs.Common.{◌++◌, Option, Some, None, Ok, Err, refl, sym, ap, subst, ◌∙◌, append_assoc, slice_get}
+use Rattle.std.proofs.Common.{arith}
 use Rattle.std.proofs.lemmas.Bool.{eqb-true}
 use Rattle.flow_state.specs.declared.channel.Channel.{Channel}
 use Rattle.flow_state.specs.declared.channel.ChannelRow.{ChannelRow}
@@ -16,10 +18,15 @@ use Rattle.grant_machine.specs.declared.command.Command.TheVariants as commands
 use Rattle.grant_machine.specs.Fits.{FitsKind}
 use Rattle.command_log.specs.Spelling.{phy_byte, kind_byte, kind_spelling, spelling}
 use Rattle.row_bytes.specs.declared.fault.RowsFault.TheVariants.{NoChannel, NoFlow, NoRequest}
-use Rattle.row_bytes.specs.Spelling.{number_2, number_4, number_8, row_spelling, lease_spelling, sent_spelling, flow_spelling, request_spelling}
+use Rattle.row_bytes.specs.Spelling.{number_2, number_4, number_8, row_spelling, lease_spelling, sent_spelling}
+use Rattle.row_bytes.specs.Spelling.{flow_spelling, request_spelling}
 use Rattle.row_bytes.specs.Fits.{FitsRow, FitsLease, FitsSent, FitsFlow, FitsRequest}
-use Rattle.row_bytes.specs.Reading.{◌>>=◌, AreBytes, Read, good, byte_at, number_2_at, number_4_at, number_8_at, phy_by, phy_at, backoff_at, front_at, channel_at, row_at, lease_at, best_effort_at, timing_at, poll_at, sized_at, fields_by, kind_at, some_sent_at, sent_by, sent_at, lease_of_sid, lease_found, flow_at, request_at}
-use Rattle.row_bytes.proofs.Numbers.{bind_ok, good_ok, ok_is, Begins, Begins-then, byte_begins, begins_2, begins_4, begins_8, again_2, again_4, again_8}
+use Rattle.row_bytes.specs.Reading.{◌>>=◌, AreBytes, Read, good, byte_at, number_2_at, number_4_at, number_8_at, phy_by}
+use Rattle.row_bytes.specs.Reading.{phy_at, backoff_at, front_at, channel_at, row_at, lease_at, best_effort_at}
+use Rattle.row_bytes.specs.Reading.{timing_at, poll_at, sized_at, fields_by, kind_at, some_sent_at, sent_by, sent_at}
+use Rattle.row_bytes.specs.Reading.{lease_of_sid, lease_found, flow_at, request_at}
+use Rattle.row_bytes.proofs.Numbers.{bind_ok, good_ok, ok_is, Begins, Begins-then, byte_begins, begins_2, begins_4}
+use Rattle.row_bytes.proofs.Numbers.{begins_8, again_2, again_4, again_8}
 
 abbrev okay : {A : Type 0} → A → Read A
 okay x = Ok x

@@ -1,5 +1,6 @@
 -- Tables that are taken one behind the other, as a loop does, and where want of memory comes.
-use Rattle.std.proofs.Common.{◌≡◌, ℕ, suc, ◌+◌, ◌-◌, ◌<◌, ◌≤◌, List, [], Ok, Err, refl, sym, ap, subst, ◌∙◌, inl, inr, arith}
+use Rattle.std.proofs.Common.{◌≡◌, ℕ, suc, ◌+◌, ◌-◌, ◌<◌, ◌≤◌, List, [], Ok, Err, refl, sym, ap, subst, ◌∙◌, inl, inr}
+use Rattle.std.proofs.Common.{arith}
 use Rattle.std.specs.Prelude.{IsOk, IsOkAnd, IfErr, IfOk, MatchResult}
 use Rattle.flow_state.specs.Rows.{Rows}
 use Rattle.flow_state.specs.declared.channel.ChannelRow.{ChannelRow}
@@ -7,10 +8,13 @@ use Rattle.flow_state.specs.declared.flow.Lease.{Lease}
 use Rattle.flow_state.specs.declared.flow.Flow.{Flow}
 use Rattle.flow_state.specs.declared.flow.Waiting.{Waiting}
 use Rattle.row_bytes.specs.declared.fault.RowsFault.{RowsFault}
-use Rattle.row_bytes.specs.declared.fault.RowsFault.TheVariants.{Short, Trailing, NoChannel, NoFlow, NoRequest, NotFirm, OutOfMemory}
+use Rattle.row_bytes.specs.declared.fault.RowsFault.TheVariants.{Short, Trailing, NoChannel, NoFlow, NoRequest, NotFirm}
+use Rattle.row_bytes.specs.declared.fault.RowsFault.TheVariants.{OutOfMemory}
 use Rattle.row_bytes.specs.Spelling.{Whole}
-use Rattle.row_bytes.specs.Reading.{◌>>=◌, AreBytes, FailsReading, HasRow, Read, flows_at, leases_at, number_2_at, requests_at, row_at, whole_at}
-use Rattle.row_bytes.specs.Tables.{AreRead, Fails, FaultAt, HasTable, ReadsAll, ReadsOn, ReadsTables, Spells, TakesMemory, TakesTable, at_end}
+use Rattle.row_bytes.specs.Reading.{◌>>=◌, AreBytes, FailsReading, HasRow, Read, flows_at, leases_at, number_2_at}
+use Rattle.row_bytes.specs.Reading.{requests_at, row_at, whole_at}
+use Rattle.row_bytes.specs.Tables.{AreRead, Fails, FaultAt, HasTable, ReadsAll, ReadsOn, ReadsTables, Spells}
+use Rattle.row_bytes.specs.Tables.{TakesMemory, TakesTable, at_end}
 use Rattle.row_bytes.proofs.Numbers.{bind_ok}
 use Rattle.row_bytes.proofs.Behind.{read_once, read_spelled, spelled_read}
 

@@ -1,16 +1,20 @@
 -- The tables of channels that are read are those that were written, and what was written is read again.
-use Rattle.std.proofs.Common.{◌≡◌, ℕ, ◌^◌, ◌<◌, List, [], ◌∷◌, ◌++◌, length, Ok, refl, sym, ap, subst, ◌∙◌, append_assoc, arith}
+use Rattle.std.proofs.Common.{◌≡◌, ℕ, ◌^◌, ◌<◌, List, [], ◌∷◌, ◌++◌, length, Ok, refl, sym, ap, subst, ◌∙◌}
+use Rattle.std.proofs.Common.{append_assoc, arith}
 use Rattle.std.specs.List.{flat_map}
 use Rattle.flow_state.specs.declared.channel.ChannelRow.{ChannelRow}
 use Rattle.flow_state.specs.declared.flow.Flow.{Flow}
 use Rattle.flow_state.specs.declared.flow.Lease.{Lease}
 use Rattle.flow_state.specs.declared.flow.Waiting.{Waiting}
-use Rattle.row_bytes.specs.Spelling.{Whole, number_2, row_spelling, lease_spelling, leases_spelling, flow_spelling, flows_spelling, request_spelling, requests_spelling, whole_spelling}
+use Rattle.row_bytes.specs.Spelling.{Whole, number_2, row_spelling, lease_spelling, leases_spelling, flow_spelling}
+use Rattle.row_bytes.specs.Spelling.{flows_spelling, request_spelling, requests_spelling, whole_spelling}
 use Rattle.row_bytes.specs.Fits.{FitsFlow, FitsLease, FitsRequest, FitsWhole}
-use Rattle.row_bytes.specs.Reading.{◌>>=◌, AreBytes, byte_at, number_2_at, row_at, lease_at, flow_at, request_at, items_in, leases_at, flows_at, requests_at, whole_at}
+use Rattle.row_bytes.specs.Reading.{◌>>=◌, AreBytes, byte_at, number_2_at, row_at, lease_at, flow_at, request_at}
+use Rattle.row_bytes.specs.Reading.{items_in, leases_at, flows_at, requests_at, whole_at}
 use Rattle.row_bytes.proofs.Numbers.{bind_ok, ok_is, Begins, Begins-then, byte_begins, begins_2, again_2}
 use Rattle.row_bytes.proofs.Items.{AllFrom, AreItems, all_at, all_by, items_begin, items_again}
-use Rattle.row_bytes.proofs.Parts.{IsRow, row_begins, row_again, IsLease, lease_begins, lease_again, AreNumbered, IsFlow, flow_begins, flow_again, IsRequest, request_begins, request_again}
+use Rattle.row_bytes.proofs.Parts.{IsRow, row_begins, row_again, IsLease, lease_begins, lease_again, AreNumbered}
+use Rattle.row_bytes.proofs.Parts.{IsFlow, flow_begins, flow_again, IsRequest, request_begins, request_again}
 
 leases_are : AreItems lease_at lease_spelling IsLease
 leases_are = record { begins = lease_begins; again = lease_again }

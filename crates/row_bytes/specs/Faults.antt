@@ -1,7 +1,8 @@
 -- The numbers of faults.
 use Rattle.std.specs.Prelude.{ℕ}
 use Rattle.row_bytes.specs.declared.fault.RowsFault.{RowsFault}
-use Rattle.row_bytes.specs.declared.fault.RowsFault.TheVariants.{Short, Trailing, NoChannel, NoFlow, NoRequest, NotFirm, OutOfMemory}
+use Rattle.row_bytes.specs.declared.fault.RowsFault.TheVariants.{Short, Trailing, NoChannel, NoFlow, NoRequest, NotFirm}
+use Rattle.row_bytes.specs.declared.fault.RowsFault.TheVariants.{OutOfMemory}
 
 abbrev pub fault_number : RowsFault → ℕ
 fault_number Short = 1

@@ -1,5 +1,6 @@
 -- Reading tables from left to right, up to the first fault.
-use Rattle.std.specs.Prelude.{◌≡◌, ℕ, zero, suc, ◌+◌, ◌-◌, ◌<◌, ◌^◌, ◌==◌, Bool, List, [], ◌∷◌, length, take, drop, Option, Some, None, Result, Ok, Err, IsOk, slice_get, Vec, nat_lt, if◌then◌else◌}
+use Rattle.std.specs.Prelude.{◌≡◌, ℕ, zero, suc, ◌+◌, ◌-◌, ◌<◌, ◌^◌, ◌==◌, Bool, List, [], ◌∷◌, length, take, drop}
+use Rattle.std.specs.Prelude.{Option, Some, None, Result, Ok, Err, IsOk, slice_get, Vec, nat_lt, if◌then◌else◌}
 use Rattle.std.specs.declared.alloc.Global.{Global}
 use Rattle.std.specs.Int.{Width, w16, w32, w64, byte_len, from_be_bytes}
 use Rattle.flow_state.specs.declared.channel.Channel.{Channel}
@@ -15,7 +16,8 @@ use Rattle.flow_state.specs.Limits.{is_good_channel, is_good_kind, is_size}
 -- each element is a byte
 pub use Rattle.command_log.specs.Reading.{AreBytes}
 use Rattle.row_bytes.specs.declared.fault.RowsFault.{RowsFault}
-use Rattle.row_bytes.specs.declared.fault.RowsFault.TheVariants.{Short, NoChannel, NoFlow, NoRequest, NotFirm, OutOfMemory}
+use Rattle.row_bytes.specs.declared.fault.RowsFault.TheVariants.{Short, NoChannel, NoFlow, NoRequest, NotFirm}
+use Rattle.row_bytes.specs.declared.fault.RowsFault.TheVariants.{OutOfMemory}
 use Rattle.row_bytes.specs.Spelling.{Whole}
 
 -- what was read, or the first fault

@@ -1,5 +1,6 @@
 -- Which tables bytes spell, and reading tables one behind the other, up to the first fault.
-use Rattle.std.specs.Prelude.{◌≡◌, ◌⊎◌, ℕ, zero, suc, ◌<◌, ◌==◌, List, [], ◌∷◌, ◌++◌, length, map, None, Ok, Err, IsOkAnd, if◌then◌else◌}
+use Rattle.std.specs.Prelude.{◌≡◌, ◌⊎◌, ℕ, zero, suc, ◌<◌, ◌==◌, List, [], ◌∷◌, ◌++◌, length, map, None, Ok, Err}
+use Rattle.std.specs.Prelude.{IsOkAnd, if◌then◌else◌}
 use Rattle.flow_state.specs.declared.whole.WholeTable.{WholeTable}
 use Rattle.flow_state.specs.Firm.{AreFirm, IsFirm}
 use Rattle.flow_state.specs.Rows.{Rows, Table, lent_flow, table_of}

@@ -1,8 +1,10 @@
 //! Reading fields from left to right. Each function takes one off the front of the bytes.
 
 ghost use Rattle.std.specs.Prelude.{◌≡◌, ◌+◌, ◌<◌, ◌^◌};
-ghost use Rattle.row_bytes.specs.Reading.{Takes, backoff_at, byte_at, channel_at, fields_by, flow_at, front_at, kind_at, lease_at, lease_of_sid};
-ghost use Rattle.row_bytes.specs.Reading.{number_2_at, number_4_at, number_8_at, phy_at, request_at, row_at, sent_at, sized_at, timing_at};
+ghost use Rattle.row_bytes.specs.Reading.{Takes, backoff_at, byte_at, channel_at, fields_by, flow_at, front_at};
+ghost use Rattle.row_bytes.specs.Reading.{kind_at, lease_at, lease_of_sid};
+ghost use Rattle.row_bytes.specs.Reading.{number_2_at, number_4_at, number_8_at, phy_at, request_at, row_at, sent_at};
+ghost use Rattle.row_bytes.specs.Reading.{sized_at, timing_at};
 ghost use Rattle.flow_state.specs.declared.flow.FlowKind.TheVariants.{Ugs, Station, Initial};
 
 use crate::fault::RowsFault;

@@ -3,7 +3,8 @@
 ghost use Rattle.std.specs.Prelude.{◌≡◌, ◌⊎◌, [], IfErr, IfOk, MatchResult, Err, Ok};
 ghost use Rattle.flow_state.specs.Rows.{Rows};
 ghost use Rattle.row_bytes.specs.Reading.{FailsReading, HasRow, whole_at};
-ghost use Rattle.row_bytes.specs.Tables.{AreRead, Fails, FaultAt, HasTable, ReadsTables, Spells, TakesMemory, TakesTable, TakesWhole};
+ghost use Rattle.row_bytes.specs.Tables.{AreRead, Fails, FaultAt, HasTable, ReadsTables, Spells, TakesMemory};
+ghost use Rattle.row_bytes.specs.Tables.{TakesTable, TakesWhole};
 
 use crate::fault::RowsFault;
 use crate::fields::{take_row, take_u16};

@@ -1,7 +1,8 @@
 //! Reading the rows of a channel, each behind how many there are.
 
 ghost use Rattle.std.specs.Prelude.{⊤};
-ghost use Rattle.row_bytes.specs.Reading.{HasItem, HasRow, Takes, TakesItems, byte_at, flow_at, flows_at, items_in, lease_at, leases_at, number_2_at, request_at, requests_at, whole_at};
+ghost use Rattle.row_bytes.specs.Reading.{HasItem, HasRow, Takes, TakesItems, byte_at, flow_at, flows_at, items_in};
+ghost use Rattle.row_bytes.specs.Reading.{lease_at, leases_at, number_2_at, request_at, requests_at, whole_at};
 
 use crate::fault::RowsFault;
 use crate::fields::{take_byte, take_flow, take_lease, take_request, take_row, take_u16};
@@ -27,7 +28,8 @@ fn take_flows_of(
     count: u16,
     rest: &mut &[u8],
 ) -> Result<Vec<Flow>, RowsFault>
-    ensures { TakesItems (HasItem (λ place. flow_at ch leases.now) 0 count rest.old.now) result rest.new.now (items_in (λ place. flow_at ch leases.now) 0 count rest.old.now) }
+    ensures { TakesItems (HasItem (λ place. flow_at ch leases.now) 0 count rest.old.now) result rest.new.now
+        (items_in (λ place. flow_at ch leases.now) 0 count rest.old.now) }
 {
     let mut flows = Vec::new(alloc);
     for _ in 0..count {

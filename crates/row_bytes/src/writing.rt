@@ -7,7 +7,9 @@ ghost use Rattle.flow_state.specs.Rows.{Table};
 ghost use Rattle.grant_machine.specs.Fits.{FitsKind};
 ghost use Rattle.row_bytes.specs.Fits.{FitsLease, FitsFlow, FitsRequest, FitsRow, FitsSent, FitsTable};
 ghost use Rattle.row_bytes.specs.Tables.{Spells};
-ghost use Rattle.row_bytes.specs.Spelling.{flow_spelling, flows_spelling, lease_spelling, leases_spelling, requests_spelling, number_2, number_4, number_8, request_spelling, row_spelling, rows_spelling, sent_spelling, table_spelling};
+ghost use Rattle.row_bytes.specs.Spelling.{flow_spelling, flows_spelling, lease_spelling, leases_spelling};
+ghost use Rattle.row_bytes.specs.Spelling.{requests_spelling, number_2, number_4, number_8, request_spelling};
+ghost use Rattle.row_bytes.specs.Spelling.{row_spelling, rows_spelling, sent_spelling, table_spelling};
 
 use command_log::{put_kind, put_setting};
 use flow_state::{ChannelRow, ChannelTable, Flow, FlowKind, Flows, Lease, Waiting};

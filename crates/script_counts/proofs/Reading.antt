@@ -1,5 +1,6 @@
 -- What is read off events and answers, one after another.
-use Rattle.std.proofs.Common.{◌≡◌, ◌⊎◌, ◌↔◌, inl, inr, ℕ, zero, suc, ◌+◌, ◌<◌, ◌≤◌, List, [], ◌∷◌, ◌++◌, length, drop, map, Option, None, Some, false, IsTrue, slice_get, option_to_list, refl, add-one, arith}
+use Rattle.std.proofs.Common.{◌≡◌, ◌⊎◌, ◌↔◌, inl, inr, ℕ, zero, suc, ◌+◌, ◌<◌, ◌≤◌, List, [], ◌∷◌, ◌++◌, length, drop}
+use Rattle.std.proofs.Common.{map, Option, None, Some, false, IsTrue, slice_get, option_to_list, refl, add-one, arith}
 use Rattle.std.proofs.lemmas.List.{drop_all}
 use Rattle.grant_machine.specs.declared.command.Command.{Command}
 use Rattle.command_log.specs.Spelling.{spelling}

@@ -1,8 +1,10 @@
 //! What a report tells of a script.
 
-ghost use Rattle.std.specs.Prelude.{◌≡◌, ◌+◌, ◌++◌, ◌<◌, ◌≤◌, ◌↔◌, ◌⊎◌, ℕ, List, IfOk, IsTrue, length, option_to_list, drop, slice_get, map, Some};
+ghost use Rattle.std.specs.Prelude.{◌≡◌, ◌+◌, ◌++◌, ◌<◌, ◌≤◌, ◌↔◌, ◌⊎◌, ℕ, List, IfOk, IsTrue, length, option_to_list};
+ghost use Rattle.std.specs.Prelude.{drop, slice_get, map, Some};
 ghost use Rattle.command_log.specs.Spelling.{spelling};
-ghost use Rattle.script_counts.specs.Counts.{read_off, crash_of, crashes, leader_of, changes, takeovers, value_of, OffersAll};
+ghost use Rattle.script_counts.specs.Counts.{read_off, crash_of, crashes, leader_of, changes, takeovers, value_of};
+ghost use Rattle.script_counts.specs.Counts.{OffersAll};
 
 use command_log::command_bytes;
 use grant_machine::Command;

@@ -1,5 +1,7 @@
 -- What a call of a node is, as its seat shows it.
-use Rattle.std.proofs.Common.{◌≡◌, ◌<◌, ◌≤◌, inl, inr, ⊎_elim, ℕ, ◌+◌, List, [], length, None, Option, Ok, Err, Result, Bool, true, false, IsTrue, Vec, is_ok, nat_lt, if◌then◌else◌, refl, sym, ap, ◌∙◌, subst, arith}
+use Rattle.std.proofs.Common.{◌≡◌, ◌<◌, ◌≤◌, inl, inr, ⊎_elim, ℕ, ◌+◌, List, [], length, None, Option, Ok, Err, Result}
+use Rattle.std.proofs.Common.{Bool, true, false, IsTrue, Vec, is_ok, nat_lt, if◌then◌else◌, refl, sym, ap, ◌∙◌, subst}
+use Rattle.std.proofs.Common.{arith}
 use Rattle.std.specs.Prelude.{◌↔◌, IfErr, IfOk, IsOk, IsOkAnd, OnErr, OnOk}
 use Rattle.std.specs.declared.alloc.Global.{Global}
 use Rattle.std.proofs.lemmas.Bool.{cond_both, false≢true}
@@ -14,7 +16,8 @@ use Rattle.map_release.specs.declared.numbered.Numbered.{Numbered}
 use Rattle.node.specs.declared.node.Node.{Ghosts}
 use Rattle.node.specs.View.{View, Standing, started, values_from}
 use Rattle.node.specs.View.Standing.{Running, Stopped}
-use Rattle.node.specs.Calls.{Called, Cause, Course, CallEnds, IsNothingNew, IsStop, Kept, KeptByRestart, MayGoOn, Restarts, StopsLast, StoreFails, TakesTurn, Who, answer}
+use Rattle.node.specs.Calls.{Called, Cause, Course, CallEnds, IsNothingNew, IsStop, Kept, KeptByRestart, MayGoOn}
+use Rattle.node.specs.Calls.{Restarts, StopsLast, StoreFails, TakesTurn, Who, answer}
 use Rattle.node.specs.Calls.Cause.{Lead as AskedToLead, Receive as Received}
 use Rattle.node.specs.Releases.{Releases, outputs, released_all}
 use Rattle.node.specs.Step.{Outcome, is_heeded, nothing}
@@ -24,7 +27,8 @@ use Rattle.proposer.specs.Turns.{Turn, offer}
 use Rattle.proposer.specs.declared.role.Role.{Role}
 use Rattle.proposer.specs.declared.role.Role.TheVariants.{Idle, Preparing, Leading}
 use Rattle.proposer.specs.declared.fault.NodeFault.{NodeFault}
-use Rattle.proposer.specs.declared.fault.NodeFault.TheVariants.{NotLeading, LogFull, RoundsSpent, ValueTooLong, OutOfMemory, StoreRefused, Down}
+use Rattle.proposer.specs.declared.fault.NodeFault.TheVariants.{NotLeading, LogFull, RoundsSpent, ValueTooLong}
+use Rattle.proposer.specs.declared.fault.NodeFault.TheVariants.{OutOfMemory, StoreRefused, Down}
 use Rattle.seats.specs.Acted.{ask_of, come_of, letters_of, outputs_of, told}
 use Rattle.seats.specs.Acts.{Acts, AnswersDown, GoOut, GoesTo, KeepsRest, MayAnswer, MayFail, MovesBy, TellsStoreOf}
 use Rattle.seats.specs.Moves.{Ask, Move, Moves, Fails, gives, lost, quiet, whole}

@@ -10,7 +10,8 @@ use Rattle.world_events.specs.declared.event.Event.{Event}
 use Rattle.world_events.specs.declared.event.Event.TheVariants.{Hear, Want, Tick}
 use Rattle.seats.specs.declared.answer.Answer.{Answer}
 use Rattle.seats.specs.declared.answer.Answer.TheVariants.{Finished, Heard, Ticked, WantRefused, Refused}
-use Rattle.world_events.specs.declared.refusal.EventRefusal.TheVariants.{NoOutput, TooOld, NoModem, TimeBack, OutOfMemory}
+use Rattle.world_events.specs.declared.refusal.EventRefusal.TheVariants.{NoOutput, TooOld, NoModem, TimeBack}
+use Rattle.world_events.specs.declared.refusal.EventRefusal.TheVariants.{OutOfMemory}
 use Rattle.seats.specs.declared.answer.ReleasedOutput.{ReleasedOutput}
 use Rattle.seats.specs.declared.answer.Transmission.{Transmission}
 use Rattle.seats.specs.Receiver.{Receiver}

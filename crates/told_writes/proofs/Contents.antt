@@ -1,5 +1,6 @@
 -- The content after a call is that after its write.
-use Rattle.std.proofs.Common.{◌≡◌, ◌&&◌, ◌-◌, ◌+◌, ◌==◌, ℕ, Bool, true, false, List, ◌++◌, ◌∷◌, [], Option, Some, None, Ok, not, nat_eq, nat_lt, refl, sym, subst, cond, length}
+use Rattle.std.proofs.Common.{◌≡◌, ◌&&◌, ◌-◌, ◌+◌, ◌==◌, ℕ, Bool, true, false, List, ◌++◌, ◌∷◌, [], Option, Some, None}
+use Rattle.std.proofs.Common.{Ok, not, nat_eq, nat_lt, refl, sym, subst, cond, length}
 use Rattle.std.specs.List.{list_any}
 use Rattle.ballots.specs.Rows.{at, rows_from}
 use Rattle.ballots.specs.declared.letters.Cast.{Cast}
@@ -11,7 +12,8 @@ use Rattle.acceptor.specs.Content.Write.{Promises, Votes}
 use Rattle.learner.specs.Tally.{counts, is_majority, teaches}
 use Rattle.node.specs.Calls.{Cause}
 use Rattle.node.specs.Calls.Cause.{Receive, Lead, Offer, Tell}
-use Rattle.node.specs.Step.{Outcome, accept, after_promise, first_known, heed, is_heeded, known, learns, nothing, offer, prepare, promise, receive, sends, tell, vote_at, voted, writes}
+use Rattle.node.specs.Step.{Outcome, accept, after_promise, first_known, heed, is_heeded, known, learns, nothing, offer}
+use Rattle.node.specs.Step.{prepare, promise, receive, sends, tell, vote_at, voted, writes}
 use Rattle.node.specs.View.{View}
 use Rattle.ballots.specs.Limits.{longest_value, most_places}
 use Rattle.proposer.specs.Joining.{join, place_after}

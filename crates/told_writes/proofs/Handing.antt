@@ -1,5 +1,7 @@
 -- What a call hands out is its write.
-use Rattle.std.proofs.Common.{◌≡◌, ◌⊎◌, inl, inr, ℕ, zero, suc, ◌+◌, ◌-◌, ◌<◌, ◌&&◌, ◌==◌, Bool, true, false, List, [], ◌∷◌, ◌++◌, length, Option, Some, None, not, nat_eq, refl, sym, ap, subst, ◌∙◌, cond, arith, slice_get, nat_lt, nat_le}
+use Rattle.std.proofs.Common.{◌≡◌, ◌⊎◌, inl, inr, ℕ, zero, suc, ◌+◌, ◌-◌, ◌<◌, ◌&&◌, ◌==◌, Bool, true, false, List, []}
+use Rattle.std.proofs.Common.{◌∷◌, ◌++◌, length, Option, Some, None, not, nat_eq, refl, sym, ap, subst, ◌∙◌, cond}
+use Rattle.std.proofs.Common.{arith, slice_get, nat_lt, nat_le}
 use Rattle.std.specs.Option.{MatchOption}
 use Rattle.std.specs.List.{list_any}
 use Rattle.ballots.specs.declared.letters.Letter.{Letter}
@@ -13,7 +15,9 @@ use Rattle.ballots.proofs.Callers.{at_put_same}
 use Rattle.acceptor.specs.Content.{promised}
 use Rattle.acceptor.specs.Content.Write.{Promises, Votes, Learns}
 use Rattle.learner.specs.Tally.{is_majority, teaches, counts}
-use Rattle.node.specs.Step.{Outcome, is_heeded, is_place, is_sound, is_value, heed, receive, prepare, first_known, accept, vote_at, promise, after_promise, voted, known, learns, nothing, sends, writes, lead_with}
+use Rattle.node.specs.Step.{Outcome, is_heeded, is_place, is_sound, is_value, heed, receive, prepare, first_known}
+use Rattle.node.specs.Step.{accept, vote_at, promise, after_promise, voted, known, learns, nothing, sends, writes}
+use Rattle.node.specs.Step.{lead_with}
 use Rattle.node.specs.View.{View, gapless}
 use Rattle.proposer.specs.Joining.{join, place_after, proposal}
 use Rattle.proposer.specs.Letters.{letter, to_all, proposals}

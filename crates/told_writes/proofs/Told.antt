@@ -1,5 +1,6 @@
 -- What is told of a call is its write, whatever was asked.
-use Rattle.std.proofs.Common.{◌≡◌, inl, ℕ, ◌+◌, Bool, true, false, List, [], ◌∷◌, None, Result, Ok, Err, sym, ap, subst, cond, length, nat_lt}
+use Rattle.std.proofs.Common.{◌≡◌, inl, ℕ, ◌+◌, Bool, true, false, List, [], ◌∷◌, None, Result, Ok, Err, sym, ap, subst}
+use Rattle.std.proofs.Common.{cond, length, nat_lt}
 use Rattle.ballots.specs.Limits.{longest_value, most_places}
 use Rattle.ballots.specs.declared.letters.Note.TheVariants.{Accept}
 use Rattle.node.specs.Calls.Cause.{Receive, Lead, Offer, Tell}

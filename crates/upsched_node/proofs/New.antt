@@ -1,5 +1,6 @@
 -- A new node that serves.
-use Rattle.std.proofs.Common.{◌≡◌, ◌↔◌, inr, ℕ, Bool, true, false, Result, Ok, Err, IsOk, MatchResult, refl, sym, ap, ◌∙◌, subst}
+use Rattle.std.proofs.Common.{◌≡◌, ◌↔◌, inr, ℕ, Bool, true, false, Result, Ok, Err, IsOk, MatchResult, refl, sym, ap}
+use Rattle.std.proofs.Common.{◌∙◌, subst}
 use Rattle.std.specs.Io.KnownBytes.{Appends}
 use Rattle.acceptor.specs.Content.{no_content}
 use Rattle.ballots.specs.Members.{member_count}

@@ -1,7 +1,8 @@
 -- Why an event changed nothing.
 use Rattle.std.specs.Prelude.{ℕ}
 use Rattle.world_events.specs.declared.refusal.EventRefusal.{EventRefusal}
-use Rattle.world_events.specs.declared.refusal.EventRefusal.TheVariants.{NoLetter, NodeDown, NodeUp, NoOutput, TooOld, NoModem, TimeBack, NoNode, OutOfMemory}
+use Rattle.world_events.specs.declared.refusal.EventRefusal.TheVariants.{NoLetter, NodeDown, NodeUp, NoOutput, TooOld}
+use Rattle.world_events.specs.declared.refusal.EventRefusal.TheVariants.{NoModem, TimeBack, NoNode, OutOfMemory}
 
 -- the number that stands for a refusal
 abbrev pub event_refusal_number : EventRefusal → ℕ

@@ -1,7 +1,8 @@
 use Rattle.std.proofs.Common.{◌≡◌, ◌++◌, ◌+◌, ◌<◌, ◌≤◌, suc, List, drop, slice_set, sym, ap, subst, ◌∙◌, add-one, take}
 use Rattle.std.specs.List.{insert}
 use Rattle.grant_machine_parts.specs.Gaps.{Gap}
-use Rattle.grant_machine_parts.proofs.Splits.{same_gap, is_in, two_put, one_put, two_left, first_left, second_left, none_left}
+use Rattle.grant_machine_parts.proofs.Splits.{same_gap, is_in, two_put, one_put, two_left, first_left, second_left}
+use Rattle.grant_machine_parts.proofs.Splits.{none_left}
 use Rattle.grant_machine_parts.proofs.gaps.split.Goals as goal
 
 pub returns-in_ok-insert-clause-ok : goal.returns-in_ok-insert-clause-ok

@@ -2,7 +2,8 @@ use Rattle.std.proofs.Common.{◌++◌, ◌∷◌, [], length, sym, ◌∙◌, s
 use Rattle.map_body.specs.declared.fault.MapFault.TheVariants.{Expansion, OutOfOrder}
 use Rattle.map_body.specs.Rules.{FirstElementFault}
 use Rattle.map_body.proofs.Scan.{Scanned, tested, untested}
-use Rattle.map_body.proofs.Looks.{look_found, sound_of, saw_sound, found_expansion, found_fall, more_behind, more_null, more_before}
+use Rattle.map_body.proofs.Looks.{look_found, sound_of, saw_sound, found_expansion, found_fall, more_behind, more_null}
+use Rattle.map_body.proofs.Looks.{more_before}
 use Rattle.map_body.proofs.judging.look.Goals as goal
 
 pub returns-then-is_some : goal.returns-then-is_some

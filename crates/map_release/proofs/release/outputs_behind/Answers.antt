@@ -1,12 +1,15 @@
-use Rattle.std.proofs.Common.{◌≡◌, ◌≤◌, ◌∷◌, [], ◌++◌, true, false, cond, List, Some, None, length, take, slice_get, Vec, Global, ◌+◌, sym, ap, ◌∙◌, rules, arith}
+use Rattle.std.proofs.Common.{◌≡◌, ◌≤◌, ◌∷◌, [], ◌++◌, true, false, cond, List, Some, None, length, take, slice_get}
+use Rattle.std.proofs.Common.{Vec, Global, ◌+◌, sym, ap, ◌∙◌, rules, arith}
 use Rattle.std.specs.Option.{option_copied}
 use Rattle.std.proofs.lemmas.List.{append-nil}
 use Rattle.command_log.proofs.Callers.{is_last}
 use Rattle.map_release.specs.declared.numbered.Numbered.{Numbered}
 use Rattle.map_release.specs.Released.{applied_outputs, has_ended, released}
-use Rattle.map_release.proofs.Steps.{applied_length, is_released, looked_up, released_all, released_first, released_next}
+use Rattle.map_release.proofs.Steps.{applied_length, is_released, looked_up, released_all, released_first}
+use Rattle.map_release.proofs.Steps.{released_next}
 use Rattle.map_release.proofs.release.outputs_behind.Goals as goal
-use Rattle.map_release.proofs.release.outputs_behind.Goals.{in-Some+then-not-has_ended+in_ok-output+in_ok-map_err, in-Some+else-not-has_ended, in_default}
+use Rattle.map_release.proofs.release.outputs_behind.Goals.{in-Some+then-not-has_ended+in_ok-output+in_ok-map_err}
+use Rattle.map_release.proofs.release.outputs_behind.Goals.{in-Some+else-not-has_ended, in_default}
 
 pub loop-passed-init : goal.loop-passed-init
 loop-passed-init c = c.new-outputs.ensures.items ∙ sym (released_first c.args.now c.args.cursor (applied_outputs c.args.log.now))

@@ -1,4 +1,5 @@
-use Rattle.network_script.proofs.Whole.{modems_are_named, held_is_owned, owners_are_one, holders_are_one, sent_is_held, sent_by_owner}
+use Rattle.network_script.proofs.Whole.{modems_are_named, held_is_owned, owners_are_one, holders_are_one, sent_is_held}
+use Rattle.network_script.proofs.Whole.{sent_by_owner}
 use Rattle.network_script.proofs.laws.one_owner.Goals as goal
 
 pub returns : goal.returns

@@ -1,4 +1,5 @@
-use Rattle.network_script.proofs.Schedule.{one_schedule, gapless_is_beginning, released_is_output, maps_are_one, covers_once}
+use Rattle.network_script.proofs.Schedule.{one_schedule, gapless_is_beginning, released_is_output, maps_are_one}
+use Rattle.network_script.proofs.Schedule.{covers_once}
 use Rattle.network_script.proofs.laws.one_schedule.Goals as goal
 
 pub returns : goal.returns

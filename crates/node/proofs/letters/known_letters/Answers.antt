@@ -1,4 +1,5 @@
-use Rattle.std.proofs.Common.{◌≡◌, ◌∷◌, ◌++◌, [], ◌+◌, ◌<◌, length, take, ◌-◌, rules, arith, sym, ap, ◌∙◌, append-nil, length-append}
+use Rattle.std.proofs.Common.{◌≡◌, ◌∷◌, ◌++◌, [], ◌+◌, ◌<◌, length, take, ◌-◌, rules, arith, sym, ap, ◌∙◌, append-nil}
+use Rattle.std.proofs.Common.{length-append}
 use Rattle.std.proofs.lemmas.Grind.{common_steps}
 use Rattle.ballots.specs.declared.letters.Note.TheVariants.{Known}
 use Rattle.ballots.specs.Rows.{rows_from}

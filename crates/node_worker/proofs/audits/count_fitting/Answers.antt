@@ -1,4 +1,5 @@
-use Rattle.std.proofs.Common.{◌≡◌, ◌∙◌, ◌<◌, ◌≤◌, ◌+◌, ℕ, length, take, get_or, set, sym, subst, arith, refl, below_more, length-set}
+use Rattle.std.proofs.Common.{◌≡◌, ◌∙◌, ◌<◌, ◌≤◌, ◌+◌, ℕ, length, take, get_or, set, sym, subst, arith, refl}
+use Rattle.std.proofs.Common.{below_more, length-set}
 use Rattle.node_worker.specs.Legal.{entries_of}
 use Rattle.node_worker.specs.Audits.{Fits, FitsAt}
 use Rattle.node_worker.proofs.Onward.{follows_fits, fits_here, counted_more, few_of}

@@ -1,4 +1,5 @@
-use Rattle.std.proofs.Common.{◌≡◌, ◌++◌, ◌∷◌, [], ℕ, suc, ◌+◌, ◌<◌, ◌≤◌, List, map, take, Some, None, ap, ◌∙◌, length, slice_get, refl, sym, subst, rules, arith}
+use Rattle.std.proofs.Common.{◌≡◌, ◌++◌, ◌∷◌, [], ℕ, suc, ◌+◌, ◌<◌, ◌≤◌, List, map, take, Some, None, ap, ◌∙◌, length}
+use Rattle.std.proofs.Common.{slice_get, refl, sym, subst, rules, arith}
 use Rattle.std.specs.Option.{option_copied}
 use Rattle.std.proofs.lemmas.Option.{slice_get_within}
 use Rattle.grant_machine.specs.declared.output.Output.{Output}

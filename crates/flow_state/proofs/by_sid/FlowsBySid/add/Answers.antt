@@ -4,7 +4,8 @@ use Rattle.std.specs.Map.{lookup, keys_of}
 use Rattle.flow_state.specs.Limits.{last_sid}
 use Rattle.indexmap.proofs.CallerLemmas.{insert_entry-new}
 use Rattle.flow_state.specs.StoredFlows.{Places, BySid, there}
-use Rattle.flow_state.proofs.BySid.{put_in, no_place, put_there, put_behind, sids_behind, given_behind, kept_written, sids_written, on_ok}
+use Rattle.flow_state.proofs.BySid.{put_in, no_place, put_there, put_behind, sids_behind, given_behind, kept_written}
+use Rattle.flow_state.proofs.BySid.{sids_written, on_ok}
 use Rattle.flow_state.proofs.by_sid.FlowsBySid.add.Goals as goal
 
 pub invariant_of-self : goal.invariant_of-self

@@ -1,7 +1,9 @@
-use Rattle.std.proofs.Common.{◌≡◌, ℕ, ◌<◌, ◌≤◌, Bool, true, false, cond, ◌&&◌, length, leb, sym, ap, subst, ◌∙◌, refl, arith}
+use Rattle.std.proofs.Common.{◌≡◌, ℕ, ◌<◌, ◌≤◌, Bool, true, false, cond, ◌&&◌, length, leb, sym, ap, subst, ◌∙◌, refl}
+use Rattle.std.proofs.Common.{arith}
 use Rattle.flow_state.specs.Rows.{Table, first_of, is_given}
 use Rattle.flow_state.proofs.Freed.{AreGiven, given_is}
-use Rattle.flow_state.proofs.leases.Leases.first_of.Goals.{else-sid-ge1-via-then-sid-ge1+else-from-len, else-sid-ge1-via-else-sid-ge1}
+use Rattle.flow_state.proofs.leases.Leases.first_of.Goals.{else-sid-ge1-via-then-sid-ge1+else-from-len}
+use Rattle.flow_state.proofs.leases.Leases.first_of.Goals.{else-sid-ge1-via-else-sid-ge1}
 use Rattle.flow_state.proofs.leases.Leases.first_of.Goals as goal
 
 was_given : (sid n : ℕ) → 1 ≤ sid → sid ≤ n → (leb 1 sid && leb sid n) ≡ true

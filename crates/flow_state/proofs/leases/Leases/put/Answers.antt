@@ -1,4 +1,5 @@
-use Rattle.std.proofs.Common.{◌≡◌, ℕ, ◌+◌, ◌-◌, ◌/◌, ◌<◌, ◌≤◌, true, false, List, length, slice_get, ltb, sym, ap, subst, ◌∙◌, refl, arith}
+use Rattle.std.proofs.Common.{◌≡◌, ℕ, ◌+◌, ◌-◌, ◌/◌, ◌<◌, ◌≤◌, true, false, List, length, slice_get, ltb, sym, ap}
+use Rattle.std.proofs.Common.{subst, ◌∙◌, refl, arith}
 use Rattle.flow_state.specs.Limits.{last_sid}
 use Rattle.flow_state.specs.Rows.{Lease, put_lease}
 use Rattle.flow_state.specs.StoredLeases.{AreNamed, NameLeases, IsBound, put_at}

@@ -1,4 +1,5 @@
-use Rattle.std.proofs.Common.{rules, arith, Bool, true, false, is_some, nat_eq, ℕ, length, ◌≡◌, ◌≤◌, ap, sym, subst, ◌∙◌, not, Option, Some, None, refl, is_none, if◌then◌else◌}
+use Rattle.std.proofs.Common.{rules, arith, Bool, true, false, is_some, nat_eq, ℕ, length, ◌≡◌, ◌≤◌, ap, sym, subst}
+use Rattle.std.proofs.Common.{◌∙◌, not, Option, Some, None, refl, is_none, if◌then◌else◌}
 use Rattle.std.specs.List.{filter, find}
 use Rattle.std.specs.Map.{lookup}
 use Rattle.std.specs.Option.{option_map}

@@ -9,7 +9,8 @@ use Rattle.flow_state.specs.StoredDues.{IsDueFrom}
 use Rattle.flow_state.specs.View.{table_view}
 use Rattle.flow_state.proofs.Freed.{free_most, most_put}
 use Rattle.flow_state.proofs.Soundness.{none_free, sound_added}
-use Rattle.flow_state.proofs.Stored.{Flows, AreStored, rows, stored_as, as_added, put_entry, none_found, all_put, stored_added, rows_added, ends_put, same_table}
+use Rattle.flow_state.proofs.Stored.{Flows, AreStored, rows, stored_as, as_added, put_entry, none_found, all_put}
+use Rattle.flow_state.proofs.Stored.{stored_added, rows_added, ends_put, same_table}
 use Rattle.flow_state.proofs.Noted.{noted_from, noted_put}
 use Rattle.flow_state.proofs.Wells.{free_range}
 use Rattle.flow_state.proofs.table.ChannelTable.insert_flow.Goals as goal

@@ -8,7 +8,8 @@ use Rattle.flow_state.specs.StoredTable.{with_next_due}
 use Rattle.flow_state.specs.View.{flow_view, table_view}
 use Rattle.flow_state.proofs.DueTimes.{due_named}
 use Rattle.flow_state.proofs.Soundness.{sound_changed}
-use Rattle.flow_state.proofs.Stored.{stored_as, with_parts, stored_written, ends_written, flow_found, flow_written, good_found}
+use Rattle.flow_state.proofs.Stored.{stored_as, with_parts, stored_written, ends_written, flow_found, flow_written}
+use Rattle.flow_state.proofs.Stored.{good_found}
 use Rattle.flow_state.proofs.Noted.{noted_due, keys_rise, keys_apart}
 use Rattle.flow_state.proofs.table.ChannelTable.set_due.Goals as goal
 

@@ -1,4 +1,5 @@
-use Rattle.std.proofs.Common.{◌≡◌, ◌≤◌, false, cond, not, nat_lt, Option, ℕ, length, IfSome, Some, None, sym, ap, subst, ◌∙◌}
+use Rattle.std.proofs.Common.{◌≡◌, ◌≤◌, false, cond, not, nat_lt, Option, ℕ, length, IfSome, Some, None, sym, ap, subst}
+use Rattle.std.proofs.Common.{◌∙◌}
 use Rattle.std.specs.List.{find, range_with_len}
 use Rattle.std.proofs.lemmas.Bool.{not-false}
 use Rattle.flow_state.specs.Limits.{most_minislots}

@@ -1,4 +1,5 @@
-use Rattle.std.proofs.Common.{◌≡◌, ◌∷◌, [], Some, slice_get, subst, sym, refl, rules, take, length, ◌∙◌, is_ok, true, ap, ◌+◌, arith}
+use Rattle.std.proofs.Common.{◌≡◌, ◌∷◌, [], Some, slice_get, subst, sym, refl, rules, take, length, ◌∙◌, is_ok, true}
+use Rattle.std.proofs.Common.{ap, ◌+◌, arith}
 use Rattle.std.proofs.lemmas.List.{take_all}
 use Rattle.network_script.proofs.Joining.{along_on}
 use Rattle.std.proofs.lemmas.Option.{slice_get_read}

@@ -1,7 +1,8 @@
 use Rattle.std.proofs.Common.{refl, ap, subst, IsTrue, false}
 use Rattle.node.specs.Learned.{Learned}
 use Rattle.proposer.specs.declared.proposer.Proposer.{Proposer}
-use Rattle.node.proofs.Endings.{restart_fails, restart_ends, reads, reads_harmless, adds_nothing, read_after, still_holds}
+use Rattle.node.proofs.Endings.{restart_fails, restart_ends, reads, reads_harmless, adds_nothing, read_after}
+use Rattle.node.proofs.Endings.{still_holds}
 use Rattle.node.proofs.Telling.{restart_failed}
 use Rattle.node.proofs.parts.Parts.start_over.Goals as goal
 

@@ -1,8 +1,10 @@
-use Rattle.std.proofs.Common.{◌≡◌, ◌-◌, ◌<◌, ◌∷◌, ◌++◌, [], List, ℕ, length, set, slice_get, Some, None, rules, sym, ap, subst, ◌∙◌, arith}
+use Rattle.std.proofs.Common.{◌≡◌, ◌-◌, ◌<◌, ◌∷◌, ◌++◌, [], List, ℕ, length, set, slice_get, Some, None, rules, sym, ap}
+use Rattle.std.proofs.Common.{subst, ◌∙◌, arith}
 use Rattle.std.proofs.lemmas.Option.{slice_get-get_or}
 use Rattle.ballots.specs.Rows.{at, put}
 use Rattle.place_table.specs.Entries.{Entries, AreStored, entries_of}
-use Rattle.place_table.proofs.Places.{found_before, found_in, found_after, is_nothing, put_before_run, stored_before, put_in_run, put_behind, stored_behind, put_at_end, stored_at_end}
+use Rattle.place_table.proofs.Places.{found_before, found_in, found_after, is_nothing, put_before_run, stored_before}
+use Rattle.place_table.proofs.Places.{put_in_run, put_behind, stored_behind, put_at_end, stored_at_end}
 use Rattle.place_table.proofs.table.Table.insert.Goals as goal
 
 pub invariant_of-self-then-place-self : goal.invariant_of-self-then-place-self

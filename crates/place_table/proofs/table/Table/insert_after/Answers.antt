@@ -1,7 +1,8 @@
 use Rattle.std.proofs.Common.{◌≡◌, ◌++◌, ◌∷◌, [], ℕ, ◌+◌, length, List, None, sym, ap, subst, ◌∙◌, arith}
 use Rattle.ballots.specs.Rows.{at, put}
 use Rattle.place_table.specs.Entries.{Entries, AreStored, entries_of}
-use Rattle.place_table.proofs.Places.{found_before, found_after, put_before_run, stored_before, put_behind, stored_behind, put_at_end, stored_at_end, is_behind, ok_weaker, by_written}
+use Rattle.place_table.proofs.Places.{found_before, found_after, put_before_run, stored_before, put_behind}
+use Rattle.place_table.proofs.Places.{stored_behind, put_at_end, stored_at_end, is_behind, ok_weaker, by_written}
 use Rattle.place_table.proofs.table.Table.insert_after.Goals as goal
 
 pub insert_after-requires-clause-none : goal.insert_after-requires-clause-none

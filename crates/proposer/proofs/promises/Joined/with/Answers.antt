@@ -6,7 +6,8 @@ use Rattle.proposer.specs.Bounds.{AreInLog, in_log}
 use Rattle.proposer.specs.Joining.{join, join_one}
 use Rattle.proposer.proofs.Joins.{joins, passes, join_one_in_log}
 use Rattle.proposer.proofs.promises.Joined.with.Goals as goal
-use Rattle.proposer.proofs.promises.Joined.with.Goals.{then-vote-le-MOST_PLACES+in_ok-join_vote, else-vote-le-MOST_PLACES}
+use Rattle.proposer.proofs.promises.Joined.with.Goals.{then-vote-le-MOST_PLACES+in_ok-join_vote}
+use Rattle.proposer.proofs.promises.Joined.with.Goals.{else-vote-le-MOST_PLACES}
 
 pub loop-vote-preserved : goal.loop-vote-preserved
 loop-vote-preserved c =

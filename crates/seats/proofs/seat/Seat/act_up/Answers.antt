@@ -1,7 +1,8 @@
 use Rattle.std.proofs.Common.{refl}
 use Rattle.node.specs.Calls.{answer}
 use Rattle.node.specs.Calls.Cause.{Lead, Offer, Receive, Tell}
-use Rattle.seats.proofs.Acting.{calls, crashes, owes_lead, owes_letter, goes_on_last, owes_offer, owes_tell, releases, same_err, same_trust, stays_up_so, takes, turn_fails}
+use Rattle.seats.proofs.Acting.{calls, crashes, owes_lead, owes_letter, goes_on_last, owes_offer, owes_tell, releases}
+use Rattle.seats.proofs.Acting.{same_err, same_trust, stays_up_so, takes, turn_fails}
 use Rattle.seats.specs.Owes.{outside}
 use Rattle.seats.proofs.seat.Seat.act_up.Goals as goal
 
