@@ -163,6 +163,8 @@ if [ "$mode" = unproved ]; then
 else
     calls 'a node' 0 'node 0 of 3 fresh' '' node 0 --members 3 </dev/null
     calls 'no member' 2 '' 'error: *' node 3 --members 3 </dev/null
+    calls 'a host' 0 'host 0 of 3 places 5' '' host 0 --members 3 --places 5 </dev/null
+    calls 'no places' 2 '' 'error: *' host 0 --members 3 --places 0 </dev/null
 fi
 launcher=../link calls 'by a link' 0 "$grant" '' maps 'with space.toml'
 

@@ -34,12 +34,6 @@ class Bench:
     def say(self, *words):
         print(*words, flush=True)
 
-    def goal(self, what, found, goal, at_least=False):
-        """Prints a figure beside its goal, and how many times the goal it is."""
-        met = found >= goal if at_least else found <= goal
-        bound = "at least" if at_least else "at most"
-        self.say(f"goal {what}: {found:.2f}, {bound} {goal}: {'met' if met else 'MISSED'}")
-
     def filled(self, places, files=(None,) * MEMBERS):
         """A cluster that has released so many places; node 2 got no letter behind the first two of them."""
         cluster = Cluster(self.program, files)
@@ -82,7 +76,7 @@ class Bench:
             cluster.until(lambda: cluster.nodes[2].released >= last)
         self.say(f"{kind} {places} behind: caught up by tell in {(taken := time.perf_counter() - began):.2f} s")
         if kind == "memory" and places == 100000:
-            self.goal("seconds by tell", taken, GOALS["tell"])
+            goal("seconds by tell", taken, GOALS["tell"])
 
     def by_lead(self, kind, places, room):
         """How long node 2 takes until it has released all, asked to lead."""
@@ -97,7 +91,7 @@ class Bench:
         sizes = [it.mebibytes() for it in cluster.nodes]
         self.say(f"{kind} {places} places: MiB of each node", *(f"{size:.1f}" for size in sizes))
         if places == 100000:
-            self.goal(f"MiB of a node in {kind}", max(sizes), GOALS["mebibytes"][kind])
+            goal(f"MiB of a node in {kind}", max(sizes), GOALS["mebibytes"][kind])
 
     def speed(self, kind, cluster, places, in_flight):
         values = [CUT_BYTES.hex().encode()] * self.places
@@ -140,7 +134,7 @@ class Bench:
                 self.say(f"etcd in {kind}, {in_flight} in flight: {told(rate, delays)}; nodes: {times:.2f} times that")
                 if kind == "files" and in_flight >= 64:
                     what = f"places a second over files, times etcd's, {in_flight} in flight"
-                    self.goal(what, times, FILE_GOALS["etcd"], at_least=True)
+                    goal(what, times, FILE_GOALS["etcd"], at_least=True)
         finally:
             etcd.end()
             shutil.rmtree(room)
@@ -158,9 +152,9 @@ class Bench:
         self.program = own
         now, then = (self.rates[kind, places, 64] for kind in ("files", "files of the program before"))
         what = "places a second over files, times those before, 64 in flight"
-        self.goal(what, now / then, FILE_GOALS["before"], at_least=True)
+        goal(what, now / then, FILE_GOALS["before"], at_least=True)
         now, then = (self.medians[kind, places, 1] for kind in ("files", "files of the program before"))
-        self.goal("median delay over files, times that before, 1 in flight", now / then, FILE_GOALS["delay"])
+        goal("median delay over files, times that before, 1 in flight", now / then, FILE_GOALS["delay"])
 
     def all(self):
         for kind in ("memory", "files"):
@@ -176,11 +170,18 @@ class Bench:
         for (kind, places, in_flight), rate in self.rates.items():
             if kind == "files" and in_flight == 8:
                 what = f"places a second over files, 8 in flight, {places} behind"
-                self.goal(what, rate, FILE_GOALS["eight"], at_least=True)
+                goal(what, rate, FILE_GOALS["eight"], at_least=True)
             if kind == "files" and in_flight == 64:
                 self.say(f"sqlite3's, each write by itself, over ours, {places} behind: {limit / rate:.2f}")
             if kind == "memory" and in_flight == 64:
-                self.goal(f"places a second in memory, {places} behind", rate, GOALS["memory"], at_least=True)
+                goal(f"places a second in memory, {places} behind", rate, GOALS["memory"], at_least=True)
+
+
+def goal(what, found, wanted, at_least=False):
+    """Prints a figure beside its goal."""
+    met = found >= wanted if at_least else found <= wanted
+    bound = "at least" if at_least else "at most"
+    print(f"goal {what}: {found:.2f}, {bound} {wanted}: {'met' if met else 'MISSED'}", flush=True)
 
 
 def told(rate, delays):

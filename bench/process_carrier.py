@@ -1,4 +1,4 @@
-"""Three processes of `upsched node`, and a carrier that takes letters among them by the chunk.
+"""Three processes of `upsched node`, or of `upsched host`, and a carrier that takes letters among them by the chunk.
 
 What is done for each line is in C (process_carrier.c), so that it isn't the carrier that is measured."""
 import atexit
@@ -28,6 +28,7 @@ class Carried(ctypes.Structure):
         ("promises", ctypes.c_int * MEMBERS),
         ("learns", ctypes.c_int * MEMBERS),
         ("released", ctypes.c_longlong),
+        ("full", ctypes.c_int),
         ("alarm", ctypes.c_int),
     ]
 
@@ -42,11 +43,13 @@ def built():
     return ctypes.CDLL(library)
 
 
+def node_words(program, node, file, new):
+    words = [program, "node", str(node), "--members", str(MEMBERS)]
+    return words + (["--store", file] + ["--new"] * new if file else [])
+
+
 class Process:
-    def __init__(self, program, node, file, new):
-        words = [program, "node", str(node), "--members", str(MEMBERS)]
-        if file:
-            words += ["--store", file] + ["--new"] * new
+    def __init__(self, words):
         self.child = subprocess.Popen(words, stdin=subprocess.PIPE, stdout=subprocess.PIPE, bufsize=0)
         self.input, self.output = self.child.stdin.fileno(), self.child.stdout.fileno()
         for pipe in (self.input, self.output):
@@ -93,7 +96,10 @@ class Cluster:
     """Node 0 leads."""
 
     def __init__(self, program, files=(None,) * MEMBERS, new=True):
-        self.nodes = [Process(program, node, file, new) for node, file in enumerate(files)]
+        self.start([node_words(program, node, file, new) for node, file in enumerate(files)])
+
+    def start(self, words):
+        self.nodes = [Process(it) for it in words]
         self.carrier, self.rooms = built(), []
 
     def ask(self, node, line):
@@ -126,6 +132,7 @@ class Cluster:
         if held.alarm:
             raise SystemExit(f"a node answered {text.decode()}")
         node.released = held.released or node.released
+        node.unsent += b"release 0\n" * held.full
         for k, it in enumerate(self.nodes):
             if held.lengths[k] and not it.is_dark:
                 it.unsent += memoryview(self.rooms[k])[: held.lengths[k]]
@@ -142,6 +149,9 @@ class Cluster:
         self.ask(node, b"lead")
         self.until(lambda: self.nodes[node].promises >= 2)
 
+    def offer(self, value):
+        self.ask(0, b"offer " + value)
+
     def lowest(self):
         return min(it.released for it in self.nodes if not it.is_dark)
 
@@ -151,7 +161,7 @@ class Cluster:
         count = len(values)
         while len(delays) < count:
             while len(offered) < count and len(offered) - len(delays) < in_flight:
-                self.ask(0, b"offer " + values[len(offered)])
+                self.offer(values[len(offered)])
                 offered.append(time.perf_counter())
             self.turn()
             now = time.perf_counter()

@@ -3,7 +3,8 @@
 
 Usage: carry.py K FOLDER
 
-A line `letter TO HEX` goes to the pipe FOLDER/TO, as `letter HEX`. Each line goes to FOLDER/replies too, as `K LINE`.
+A line `letter TO HEX` goes to the pipe FOLDER/TO, as `letter HEX`, and with it the number before it, if there is one.
+Each line goes to FOLDER/replies too, as `K LINE`.
 It never waits for a pipe: a line that finds more than 64 MiB waiting there is lost, as letters may be. So a node can
 always write, and goes on reading.
 """
@@ -30,12 +31,29 @@ class Pipe:
         del self.unsent[:sent]
 
 
+class Source:
+    """Where lines come from, and what is done with each."""
+
+    def __init__(self, end, take):
+        self.end, self.take, self.rest = end, take, b""
+
+    def read_some(self):
+        """Whether there may be more to read."""
+        chunk = os.read(self.end, 1 << 16)
+        *lines, self.rest = (self.rest + chunk).split(b"\n")
+        for line in lines:
+            self.take(line)
+        return bool(chunk)
+
+
 class Carrier:
-    def __init__(self, node, folder):
-        self.node, self.folder, self.pipes = node, folder, {}
+    def __init__(self, folder):
+        self.folder, self.pipes = folder, {}
         self.ready = selectors.DefaultSelector()
-        self.ready.register(0, selectors.EVENT_READ)
-        self.rest = b""
+
+    def reads(self, end, take):
+        """Has each line that comes there taken so."""
+        self.ready.register(end, selectors.EVENT_READ, Source(end, take))
 
     def put(self, name, line):
         if name not in self.pipes:
@@ -45,21 +63,19 @@ class Carrier:
             self.ready.register(pipe.end, selectors.EVENT_WRITE, pipe)
         pipe.put(line)
 
-    def take(self, line):
-        if line.startswith(b"letter "):
-            _, to, digits = line.split(b" ")
-            self.put(to.decode(), b"letter " + digits)
-        self.put("replies", self.node + b" " + line)
+    def take(self, node, line):
+        """A line that a node, or a host, wrote."""
+        number, is_letter, rest = line.partition(b"letter ")
+        if is_letter:
+            to, digits = rest.split(b" ")
+            self.put(to.decode(), number + is_letter + digits)
+        self.put("replies", node + b" " + line)
 
     def turn(self):
         """Whether there may be more to read."""
         for key, _ in self.ready.select():
-            if key.data is None:
-                chunk = os.read(0, 1 << 16)
-                *lines, self.rest = (self.rest + chunk).split(b"\n")
-                for line in lines:
-                    self.take(line)
-                if not chunk:
+            if isinstance(key.data, Source):
+                if not key.data.read_some():
                     return False
                 continue
             key.data.write_some()
@@ -69,7 +85,8 @@ class Carrier:
 
 
 def main():
-    carrier = Carrier(sys.argv[1].encode(), sys.argv[2])
+    carrier, node = Carrier(sys.argv[2]), sys.argv[1].encode()
+    carrier.reads(0, lambda line: carrier.take(node, line))
     while carrier.turn():
         pass
 

@@ -185,33 +185,55 @@ class Supervisor:
         return False
 
 
-def lines_until(end, kept=[b""]):
+def lines_there(seconds, kept=[b""]):
+    """The lines that have come on standard input, within so many seconds."""
+    if not select.select([0], [], [], seconds)[0]:
+        return []
+    chunk = sys.stdin.buffer.raw.read(1 << 16)
+    if not chunk:
+        sys.exit("supervisor: no node is there any more")
+    *whole, kept[0] = (kept[0] + chunk).split(b"\n")
+    return whole
+
+
+def lines_until(end):
     """The lines that come on standard input until a moment."""
     while (left := end - time.monotonic()) > 0:
-        if select.select([0], [], [], left)[0]:
-            chunk = sys.stdin.buffer.raw.read(1 << 16)
-            if not chunk:
-                sys.exit("supervisor: no node is there any more")
-            *whole, kept[0] = (kept[0] + chunk).split(b"\n")
-            for line in whole:
-                yield line.decode().split()
+        for line in lines_there(left):
+            yield line.decode().split()
 
 
-def main():
-    if sys.argv[1:] in (["-h"], ["--help"]):
-        print(__doc__.strip())
-        sys.exit(0)
-    if len(sys.argv) < 3:
-        print(__doc__.strip(), file=sys.stderr)
-        sys.exit(2)
-    members, plan = int(sys.argv[1]), sys.argv[2]
-    cuts, seconds = int((sys.argv[3:] + ["0"])[0]), float((sys.argv[4:] + ["0.1"])[0])
+def read_plan(plan, cuts):
+    """Its values; a plan that can't be used ends the program."""
     try:
-        values = values_of(plan, cuts)
+        return values_of(plan, cuts)
     except (OSError, ValueError, PlanFault) as fault:
         print(f"supervisor: {plan}: {fault}", file=sys.stderr)
         sys.exit(1)
-    it = Supervisor(members, values)
+
+
+def words_in(usage, count, seconds):
+    """The words of a supervisor: so many whole numbers, a plan, and perhaps how many cuts and seconds. With --help, and
+    with others, the program prints its usage and ends."""
+    words = sys.argv[1:]
+    if words in (["-h"], ["--help"]):
+        print(usage.strip())
+        sys.exit(0)
+    try:
+        numbers, plan, more = [int(it) for it in words[:count]], words[count], words[count + 1 :]
+        cuts = int(more[0]) if more else 0
+        seconds = float(more[1]) if len(more) > 1 else seconds
+        if len(more) > 2 or min(numbers) < 1 or cuts < 0 or not seconds > 0:
+            raise ValueError
+    except (ValueError, IndexError):
+        print(usage.strip(), file=sys.stderr)
+        sys.exit(2)
+    return numbers, plan, cuts, seconds
+
+
+def main():
+    (members,), plan, cuts, seconds = words_in(__doc__, 1, 0.1)
+    it = Supervisor(members, read_plan(plan, cuts))
     it.lead(0)
     while not it.look():
         for node, *words in lines_until(time.monotonic() + seconds):
@@ -219,5 +241,15 @@ def main():
     print(f"all {len(it.outputs)}", file=sys.stderr)
 
 
+def run(main):
+    """Without a traceback where somebody stops it, or nobody reads any more."""
+    try:
+        main()
+    except (BrokenPipeError, KeyboardInterrupt) as why:
+        print(f"supervisor: {type(why).__name__}", file=sys.stderr)
+        # What is left to write finds nobody either.
+        os._exit(1)
+
+
 if __name__ == "__main__":
-    main()
+    run(main)

@@ -1,0 +1,360 @@
+#!/usr/bin/env python3
+"""Takes files of nodes apart, and looks at what `upsched check --store` and a start say of them: never that they are
+fresh, and no ballot that was tried before, but where the loss can't be seen.
+
+Usage: bench/lost.py [PROGRAM] [--cuts N] [--pairs N] [--seed S]
+
+Five nodes of five lead again and again, over files, and both files of each are copied behind many of their replies,
+up to behind a checkpoint. Then: a log cut at N places (20,000); N pairs (2,000) of a database and a log of two times;
+the log of another node; one file that isn't there, or is empty; a link and a folder in a file's place; files without
+rights; and a file that can't grow. Of each it says how many were tried, how many were seen, and how many were
+answered otherwise than they should be; each of these is a line. It ends with status 1 where there is one.
+
+What is expected of a cut goes by the frames of the log (SQLite's fileformat2.html, section 4), read here by
+themselves.
+"""
+import argparse
+import collections
+import os
+import random
+import re
+import shutil
+import subprocess
+import sys
+import tempfile
+
+ROOT = os.path.dirname(os.path.dirname(os.path.abspath(__file__)))
+MEMBERS, FRAME, HEAD, PAGE = 5, 24, 32, 4096
+NOBODY = 65534
+# What a case is: its loss has to be seen, or can't be, or may be; or nothing that was answered is lost.
+SEEN, UNSEEN, EITHER, WHOLE = "seen", "unseen", "either", "whole"
+
+
+# Ignores the signal of a file beyond its limit, sets it, and becomes a program.
+LIMITED = """
+import os, resource, signal, sys
+signal.signal(signal.SIGXFSZ, signal.SIG_IGN)
+resource.setrlimit(resource.RLIMIT_FSIZE, (int(sys.argv[1]),) * 2)
+os.execv(sys.argv[2], sys.argv[2:])
+"""
+
+
+class Moment:
+    """Both files of a node behind a reply, and the last ballot that it tried."""
+
+    def __init__(self, node, path, ballot):
+        self.node, self.ballot = node, ballot
+        self.database, self.log = (read(path), read(path + "-wal"))
+
+
+class Case:
+    """Two files, None where one isn't there; what is expected, and where it is to be seen, which states and faults."""
+
+    def __init__(self, kind, moment, database, log, states=(), faults=None):
+        self.kind, self.node, self.ballot = kind, moment.node, moment.ballot
+        self.files, self.states, self.what = (database, log), states, ""
+        self.faults = [it.replace("PATH-wal ", "PATH-wal: ") for it in states] if faults is None else faults
+
+
+def read(path):
+    with open(path, "rb") as file:
+        return file.read()
+
+
+def frames(log):
+    """Of each frame of this log's own salts whether it commits. Behind them are those of a log before, or nothing."""
+    found = []
+    for at in range(HEAD, len(log) - FRAME - PAGE + 1, FRAME + PAGE):
+        if log[at + 8 : at + 16] != log[16:24]:
+            break
+        found.append(log[at + 4 : at + 8] != bytes(4))
+    return found
+
+
+def cut(moment, place):
+    """A log cut at a place of its own, or behind its last frame: then nothing is lost."""
+    own, log = frames(moment.log), moment.log[:place]
+    number, within = divmod(place - HEAD, FRAME + PAGE)
+    state = rf"log missing: PATH-wal is cut at byte {place}"
+    if place < HEAD:
+        kind = SEEN
+    elif number >= len(own):
+        kind = WHOLE
+    elif within == 0:
+        kind = UNSEEN if number == 0 or own[number - 1] else SEEN
+    else:
+        kind = SEEN if within >= FRAME or number > 0 and not own[number - 1] else EITHER
+    return Case(kind, moment, moment.database, log, [state] if place else [state, "log missing: PATH-wal isn't there"])
+
+
+def paired(one, other):
+    """The database of one time with the log of another one."""
+    kind = SEEN
+    if one.database == other.database:
+        kind = WHOLE
+    elif one.log[:HEAD] == other.log[:HEAD]:
+        kind = WHOLE if one.ballot < other.ballot else EITHER
+    state = r"log missing: PATH-wal has commits \d+ to \d+, PATH has \d+"
+    return Case(kind, other, one.database, other.log, [state])
+
+
+class Lost:
+    def __init__(self, program, room):
+        self.program = program
+        self.folder = os.path.join(room, "files")
+        self.wrong = 0
+
+    def path(self, node):
+        return os.path.join(self.folder, f"node-{node}.db")
+
+    # What is there at first.
+
+    def moments(self, node, leads):
+        """Files of a node behind some of its replies. It leads again and again, and promises itself each ballot."""
+        os.makedirs(self.folder, exist_ok=True)
+        words = [self.program, "node", str(node), "--members", str(MEMBERS), "--store", self.path(node), "--new"]
+        kept = []
+        with subprocess.Popen(words, stdin=subprocess.PIPE, stdout=subprocess.PIPE) as it:
+            it.stdout.readline()
+            for count in range(leads):
+                letters = ask(it, b"lead")
+                ballot = int.from_bytes(letters[node][3:11], "big")
+                ask(it, b"letter " + letters[node].hex().encode())
+                if count % (1 + leads // 40) == 0 or count > leads - 3:
+                    kept.append(Moment(node, self.path(node), ballot))
+            it.stdin.close()
+        shutil.rmtree(self.folder)
+        return kept
+
+    # What is said.
+
+    def lay(self, case):
+        for path, held in zip((self.path(case.node), self.path(case.node) + "-wal"), case.files):
+            if os.path.lexists(path):
+                os.unlink(path)
+            if held is not None:
+                with open(path, "wb") as file:
+                    file.write(held)
+
+    def run(self, words, given=b"", **more):
+        return subprocess.run([self.program, *words], input=given, capture_output=True, timeout=600, **more)
+
+    def states(self, **more):
+        """What `check --store` says of each file, and its status."""
+        said = self.run(["check", "--store", self.folder], **more)
+        lines = said.stdout.decode().splitlines()
+        return {path: state for path, _, state in (line.partition(": ") for line in lines)}, said.returncode
+
+    def start(self, node, *words, given=b"lead\n", **more):
+        """The first line of a start and the ballot that it tries, or None and what it says on standard error."""
+        said = self.run(
+            ["node", str(node), "--members", str(MEMBERS), "--store", self.path(node), *words], given, **more
+        )
+        lines = said.stdout.split(b"\n")
+        if not lines[0]:
+            return None, said.stderr.decode().strip()
+        letters = [line.split()[2].decode() for line in lines if line.startswith(b"letter ")]
+        return lines[0].decode(), int.from_bytes(bytes.fromhex(letters[0])[3:11], "big") if letters else 0
+
+    def differs(self, case, what, found):
+        self.wrong += 1
+        print(f"{case.what}: {what}: {found}", flush=True)
+
+    # What it should be.
+
+    def looks(self, case, state, status_is_bad):
+        """The state that `check --store` told."""
+        path = re.escape(self.path(case.node))
+        is_seen = any(re.fullmatch(it.replace("PATH", path), state or "") for it in case.states)
+        is_good = state in ("used", "begun")
+        if case.kind == SEEN and not is_seen or case.kind in (UNSEEN, WHOLE) and not is_good:
+            self.differs(case, f"check --store, {case.kind}", state)
+        elif case.kind == EITHER and not (is_seen or is_good):
+            self.differs(case, "check --store", state)
+        elif is_seen and not status_is_bad:
+            self.differs(case, "the status of check --store", 0)
+        return is_seen
+
+    def starts(self, case):
+        self.lay(case)
+        line, found = self.start(case.node)
+        went_on = line == f"node {case.node} of {MEMBERS} restarted"
+        if case.kind == SEEN and (line is not None or not self.says(case, found)):
+            self.differs(case, "a start", (line, found))
+        elif case.kind in (UNSEEN, WHOLE) and not went_on:
+            self.differs(case, f"a start, {case.kind}", (line, found))
+        elif went_on and case.kind == WHOLE and found <= case.ballot:
+            self.differs(case, f"a start behind ballot {case.ballot} tries", found)
+        self.lay(case)
+        line, found = self.start(case.node, "--new")
+        if line is not None or case.kind == SEEN and not self.says(case, found):
+            self.differs(case, "a start with --new", (line, found))
+
+    def says(self, case, fault):
+        path = re.escape(self.path(case.node))
+        return any(re.fullmatch("upsched: " + it.replace("PATH", path), fault) for it in case.faults)
+
+    def tries(self, name, cases):
+        """Looks at five files at a time, and starts a node over each."""
+        before, kinds, seen = self.wrong, collections.Counter(), 0
+        by_node = collections.defaultdict(collections.deque)
+        for number, case in enumerate(cases):
+            case.what = f"{name} {number} of node {case.node}"
+            kinds[case.kind] += 1
+            by_node[case.node].append(case)
+        while any(by_node.values()):
+            os.makedirs(self.folder, exist_ok=True)
+            some = [it.popleft() for it in by_node.values() if it]
+            for case in some:
+                self.lay(case)
+            states, status = self.states()
+            for case in some:
+                seen += self.looks(case, states.get(self.path(case.node)), status == 1)
+                self.starts(case)
+            shutil.rmtree(self.folder)
+        told = " ".join(f"{count} {kind}" for kind, count in sorted(kinds.items()))
+        print(f"{name}: {sum(kinds.values())} tried ({told}), {seen} told, {self.wrong - before} wrong", flush=True)
+
+
+    # Files that aren't cut.
+
+    def is_refused(self, case, **more):
+        """Whether no start goes on over files that stay as they are, nor begins."""
+        for words in ([], ["--new"]):
+            line, found = self.start(case.node, *words, **more)
+            if line is not None or not found.startswith("upsched: "):
+                self.differs(case, f"a start {words}", (line, found))
+
+    def tries_shut(self, name, moment, shut, states, **more):
+        """Looks at a pair of files behind what `shut` does to one of them."""
+        for suffix in ("", "-wal"):
+            case = Case(SEEN, moment, moment.database, moment.log, states)
+            case.what = f"{name} of node-{moment.node}.db{suffix}"
+            os.makedirs(self.folder, exist_ok=True)
+            os.chmod(self.folder, 0o777)
+            self.lay(case)
+            shut(self.path(moment.node) + suffix)
+            found, status = self.states(**more)
+            seen = self.looks(case, found.get(self.path(moment.node)), status == 1)
+            self.is_refused(case, **more)
+            print(f"{case.what}: {'told' if seen else 'WRONG'}", flush=True)
+            shutil.rmtree(self.folder)
+
+    def tries_full(self, moment):
+        """A log that can't grow: the node ends, and goes on once it may."""
+        case = Case(WHOLE, moment, moment.database, moment.log)
+        case.what = f"a file of node {moment.node} that can't grow"
+        os.makedirs(self.folder, exist_ok=True)
+        self.lay(case)
+        wrong, size = self.wrong, max(len(it) for it in case.files)
+        limit = [sys.executable, "-c", LIMITED, str(size), self.program]
+        words = ["node", str(moment.node), "--members", str(MEMBERS), "--store", self.path(moment.node)]
+        said = subprocess.run([*limit, *words], input=b"lead\n" * 50, capture_output=True, timeout=600)
+        last, fault = said.stdout.splitlines()[-1], said.stderr.decode().strip()
+        if not re.match(rb"fault [67] ", last) or said.returncode != 1:
+            self.differs(case, "it ends with", (last, said.returncode))
+        if not fault.startswith(f"upsched: crashed: {self.path(moment.node)}: "):
+            self.differs(case, "standard error", fault)
+        letters = [line.split()[2].decode() for line in said.stdout.splitlines() if line.startswith(b"letter ")]
+        tried = max([moment.ballot, *(int.from_bytes(bytes.fromhex(it)[3:11], "big") for it in letters)])
+        state = self.states()[0].get(self.path(moment.node))
+        line, found = self.start(moment.node)
+        if state != "used" or line is None or found <= tried:
+            self.differs(case, f"behind ballot {tried} it is {state}, and a start", (line, found))
+        print(f"{case.what}: {'told' if self.wrong == wrong else 'WRONG'}", flush=True)
+        shutil.rmtree(self.folder)
+
+
+def linked(path):
+    os.rename(path, path + ".kept")
+    os.symlink(path + ".kept", path)
+
+
+def replaced(path):
+    os.unlink(path)
+    os.mkdir(path)
+
+
+def ask(process, line):
+    """The letters of the reply to a line."""
+    process.stdin.write(line + b"\n")
+    process.stdin.flush()
+    head = process.stdout.readline().split()
+    if head[0] != b"sent":
+        raise SystemExit(f"lost.py: {line!r} was answered by {head}")
+    return [bytes.fromhex(process.stdout.readline().split()[2].decode()) for _ in range(int(head[1]))]
+
+
+def cuts(bases, count, numbers):
+    """Logs cut at places of their own, one in four near the end of a frame, and one in eight behind the last one."""
+    for number in range(count):
+        moment = numbers.choice(bases[number % MEMBERS])
+        end = HEAD + (len(frames(moment.log)) + 1) * (FRAME + PAGE)
+        place = numbers.randrange(len(moment.log) if number % 8 == 0 else min(end, len(moment.log)))
+        if number % 4 == 1:
+            place += (HEAD - place) % (FRAME + PAGE) + numbers.choice((-1, 0, 1, 8, 23, 24, 25))
+        if number % 64 == 2:
+            place = numbers.choice((0, 1, 31, 32, 40, 56))
+        yield cut(moment, min(place, len(moment.log)))
+
+
+def pairs(bases, count, numbers):
+    for number in range(count):
+        yield paired(*numbers.choices(bases[number % MEMBERS], k=2))
+
+
+def halves(bases):
+    """One of both files isn't there, or has nothing."""
+    no_log = "log missing: PATH-wal isn't there"
+    states = ["database missing", "database missing: PATH isn't there"]
+    no_database = states, ["no store: PATH", "database missing: PATH"]
+    for moment in (kept[-1] for kept in bases):
+        yield Case(SEEN, moment, moment.database, None, [no_log])
+        yield Case(SEEN, moment, moment.database, b"", [no_log, "log missing: PATH-wal is cut at byte 0"])
+        yield Case(SEEN, moment, None, moment.log, *no_database)
+        yield Case(SEEN, moment, b"", moment.log, *no_database)
+
+
+def exchanged(bases):
+    """The log of another node. What is there may be that node's, or of another time."""
+    for kept, others in zip(bases, bases[1:] + bases[:1]):
+        for one, other in zip(kept[::10], others[::10]):
+            whose = f"node {other.node} of {MEMBERS}"
+            states = [f"of another node: {whose}", r"log missing: PATH-wal .*", "foreign"]
+            faults = [f"store of another node: PATH: {whose}", r"log missing: PATH-wal: .*", r"store: PATH: .*"]
+            yield Case(SEEN, one, one.database, other.log, states, faults)
+
+
+def main():
+    words = argparse.ArgumentParser(description=__doc__, formatter_class=argparse.RawDescriptionHelpFormatter)
+    words.add_argument("program", nargs="?", default=os.path.join(ROOT, "crates/upsched/out/upsched"))
+    words.add_argument("--cuts", type=int, default=20000)
+    words.add_argument("--pairs", type=int, default=2000)
+    words.add_argument("--leads", type=int, default=400, help="how often each node leads; 260 pass a checkpoint")
+    words.add_argument("--seed", type=int, default=1)
+    given = words.parse_args()
+    numbers = random.Random(given.seed)
+    with tempfile.TemporaryDirectory(prefix="lost-") as room:
+        os.chmod(room, 0o755)
+        program = shutil.copy(given.program, os.path.join(room, "upsched"))
+        os.chmod(program, 0o755)
+        it = Lost(program, room)
+        bases = [it.moments(node, given.leads) for node in range(MEMBERS)]
+        sizes = {len(moment.database) for kept in bases for moment in kept}
+        print(f"{sum(map(len, bases))} moments of {MEMBERS} nodes, databases of {sorted(sizes)} bytes", flush=True)
+        it.tries("cut logs", cuts(bases, given.cuts, numbers))
+        it.tries("two times", pairs(bases, given.pairs, numbers))
+        it.tries("a file missing or empty", halves(bases))
+        it.tries("the log of another node", exchanged(bases))
+        last = bases[0][-1]
+        it.tries_shut("a link in place", last, linked, ["unusable: no regular file"])
+        it.tries_shut("a folder in place", last, replaced, ["unusable: no regular file"])
+        user = {"user": NOBODY} if os.getuid() == 0 else {}
+        it.tries_shut("no rights", last, lambda path: os.chmod(path, 0), ["unusable: permission denied"], **user)
+        it.tries_full(last)
+    print(f"{it.wrong} wrong")
+    sys.exit(it.wrong > 0)
+
+
+if __name__ == "__main__":
+    main()
