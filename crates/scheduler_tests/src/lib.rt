@@ -1,8 +1,8 @@
 //! Tests of times, MAP bodies and commands as bytes, of a cut beside its first body, of cuts with settings, of intervals
 //! for ranging, of modems, of calls at their limits, of tables that are adopted, of states of hosts, of reasons of
-//! refusals, of a scheduler over epochs, and of folders of hosts, by the public calls of `minislot_time`, `map_body`,
-//! `flow_state`, `grant_machine`, `command_log`, `row_bytes`, `host_states`, `stored_hosts`, `epochs` and `modem`. What
-//! plans print, and what modems of a script do, stands as data in examples/.
+//! refusals, and of a scheduler over epochs, by the public calls of `minislot_time`, `map_body`, `flow_state`,
+//! `grant_machine`, `command_log`, `row_bytes`, `host_states`, `epochs` and `modem`. What plans print, and what modems of a script do, stands as data in
+//! examples/.
 #![tactic(auto)]
 
 #[cfg(test)]
@@ -13,8 +13,6 @@ mod cells;
 mod changes;
 #[cfg(test)]
 mod commands;
-#[cfg(test)]
-mod folders;
 #[cfg(test)]
 mod handed_out;
 #[cfg(test)]

@@ -6,7 +6,7 @@ use host_states::{StateFault, StateHead, read_state, state_bytes};
 use std::alloc::{AllocError, Global};
 use std::test::Fail;
 
-pub(crate) const HEAD: StateHead = StateHead {
+const HEAD: StateHead = StateHead {
     epoch: 3,
     places: 5,
     before: 10,
@@ -33,11 +33,10 @@ const STATE: [u8; 90] = [
     71, 149, 216, 125, 65, 122, 56,
 ];
 
-/// A scheduler with one channel.
-pub(crate) fn machine(alloc: Global) -> Result<Machine, AllocError> {
+fn bytes_of(alloc: Global) -> Result<Vec<u8>, AllocError> {
     let mut machine = Machine::new(alloc);
     machine.apply(&Command::Channel(CHANNEL))?;
-    Ok(machine)
+    state_bytes(alloc, &HEAD, &machine)
 }
 
 fn fault_of(alloc: Global, bytes: &[u8]) -> Option<StateFault> {
@@ -50,7 +49,7 @@ fn fault_of(alloc: Global, bytes: &[u8]) -> Option<StateFault> {
 #[test]
 fn states_to_bytes_and_back(rt: HostRuntime) -> Result<(), Fail> {
     let alloc = rt.alloc();
-    let bytes = state_bytes(alloc, &HEAD, &machine(alloc)?)?;
+    let bytes = bytes_of(alloc)?;
     assert!(rt; bytes.as_slice() == STATE.as_slice());
     let (head, machine) = read_state(alloc, STATE.as_slice())?;
     assert!(rt; head == HEAD);
