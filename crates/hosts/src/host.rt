@@ -50,7 +50,8 @@ pub struct Host<O: Opens> {
 }
 
 impl<O: Opens> Host<O> {
-    ghost use Rattle.std.specs.Prelude.{◌≡◌, ◌≤◌, ◌<◌, ◌↔◌, ◌+◌, ◌-◌, ◌^◌, ◌⊎◌, ℕ, true, IfErr, IfOk, IsTrue, MatchOption, MatchResult};
+    ghost use Rattle.std.specs.Prelude.{◌≡◌, ◌≤◌, ◌<◌, ◌↔◌, ◌+◌, ◌-◌, ◌^◌, ◌⊎◌, ℕ, true, IfErr, IfOk, IsTrue};
+    ghost use Rattle.std.specs.Prelude.{MatchOption, MatchResult};
     ghost use Rattle.std.specs.Prelude.{OnErr, OnOk};
     ghost use Rattle.seats.specs.Acted.{ask_of};
     ghost use Rattle.hosts.specs.Acting.{ActsIn, IsAskedIn, IsRefusedSo, NodeActs};
