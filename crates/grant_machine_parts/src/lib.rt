@@ -13,7 +13,7 @@ mod waiting;
 
 pub use chains::by_priority;
 pub use numbers::limits;
-pub use placing::{Cause, Filling, Placement};
+pub use placing::{Cause, Filling, MOST_PLACEMENTS, Placement};
 pub use services::{Service, serve};
 pub use settings::CutSettings;
 pub use waiting::{Grants, Ranked, kind_priority, place_requests};

@@ -14,7 +14,7 @@ use std::alloc::{AllocError, Global};
 use std::marker::Model;
 
 /// As many placements may a MAP have.
-const MOST_PLACEMENTS: usize = 60;
+pub const MOST_PLACEMENTS: usize = 60;
 
 /// As many gaps may be between them, before the first and behind the last.
 const MOST_GAPS: usize = 61;

@@ -1,7 +1,7 @@
 -- What is told of MAPs and of flows has no fraction, and hardly nests.
-use Rattle.std.proofs.Common.{ℕ, ◌/◌, ◌%◌, ◌^◌, ◌≤◌, List, codes, arith}
+use Rattle.std.proofs.Common.{ℕ, ◌/◌, ◌%◌, ◌^◌, ◌==◌, ◌≤◌, true, false, cond, List, codes, arith}
 use Rattle.serde_json.specs.Data.{Members, no_members, object, depth}
-use Rattle.json_outputs.specs.Fields.{with_text}
+use Rattle.json_outputs.specs.Fields.{with_text, with_time}
 use Rattle.json_outputs.specs.Texts.{IsPlain}
 use Rattle.json_outputs.proofs.Callers.{AreSmall, none_small, object_small, with_number_small, with_text_small}
 use Rattle.json_outputs.proofs.Callers.{with_time_small}
@@ -11,7 +11,7 @@ use Rattle.map_stats.specs.declared.summary.Summary.{Summary}
 use Rattle.map_stats.specs.declared.summary.Waits.{Waits}
 use Rattle.map_stats.specs.FlowTexts.{how_many, gone, fraction}
 use Rattle.plan_account.specs.WhyTexts.{why_name}
-use Rattle.json_stats.specs.Tallies.{map_data, use_data, sid_data}
+use Rattle.json_stats.specs.Tallies.{map_data, use_data, sid_data, with_first}
 use Rattle.json_stats.specs.Flows.{flow_members, requests_data, delays_data, waits_data, windows_data}
 
 object_plain : (ms : Members) → AreSmall 0 ms → IsPlain (object ms)
@@ -22,6 +22,13 @@ object_plain ms xs =
 
 row_small : (row : List ℕ) → AreSmall 0 (with_text (codes "row") row no_members)
 row_small row = with_text_small 0 (codes "row") row no_members (none_small 0)
+
+first_small : (since : ℕ) (ms : Members) → AreSmall 0 ms → AreSmall 0 (with_first since ms)
+first_small since ms small =
+    elim (since == 0) as (λ b. AreSmall 0 (cond b ms (with_time (codes "first") since ms))) [
+      | true ↦ small
+      | false ↦ with_time_small 0 (codes "first") since ms small
+    ]
 
 pub map_plain : (key : ℕ) (t : Tally) → IsPlain (map_data key t)
 map_plain key t =
@@ -37,12 +44,13 @@ use_plain key t whole =
 pub sid_plain : (key : ℕ) (t : Tally) → IsPlain (sid_data key t)
 sid_plain key t =
     object_plain _ (with_number_small 0 (codes "minislots") t.minislots _ (with_number_small 0 (codes "grants") t.count _
-    (with_number_small 0 (codes "iuc") (key % 16) _ (with_number_small 0 (codes "sid") (key / 16 % 2 ^ 14) _
-    (with_number_small 0 (codes "channel") (key / 2 ^ 18) _ (row_small (codes "sid")))))))
+    (with_number_small 0 (codes "iuc") (key % 16) _ (first_small (key / 2 ^ 4 % 2 ^ 64) _
+    (with_number_small 0 (codes "sid") (key / 2 ^ 68 % 2 ^ 14) _ (with_number_small 0 (codes "channel") (key / 2 ^ 82) _
+    (row_small (codes "sid"))))))))
 
 flow_small : (row : List ℕ) (key : ℕ) → AreSmall 0 (flow_members row key)
-flow_small row key =
-    with_number_small 0 (codes "sid") (key % 2 ^ 16) _ (with_number_small 0 (codes "channel") (key / 2 ^ 16) _ (row_small row))
+flow_small row lease =
+    first_small (lease % 2 ^ 64) _ (with_number_small 0 (codes "sid") (lease / 2 ^ 64 % 2 ^ 16) _ (with_number_small 0 (codes "channel") (lease / 2 ^ 80) _ (row_small row)))
 
 pub requests_plain : (key : ℕ) (s : Summary) → IsPlain (requests_data key s)
 requests_plain key s =

@@ -9,7 +9,8 @@ use Rattle.plan_account.specs.declared.past.Fate.TheVariants as fates
 use Rattle.plan_account.specs.declared.past.LeaseRow.{LeaseRow}
 use Rattle.plan_account.specs.declared.past.RequestRow.{RequestRow}
 use Rattle.map_stats.specs.Laws.{SumsAreOfRows, delay_in, delay_of, leases_of, missed_in, requests_of, windows_in}
-use Rattle.map_stats.specs.Sums.{Sums, lease_step, no_sums, request_step, sums_at, with_fate, with_lease, with_request}
+use Rattle.map_stats.specs.Sums.{Sums, lease_asked, lease_step, lease_told, no_sums, request_step, sums_at}
+use Rattle.map_stats.specs.Sums.{with_fate, with_lease, with_request}
 
 abbrev given : Option Sums → Sums
 given o = unwrap_or o no_sums
@@ -53,7 +54,7 @@ one_before r rs s t a = record {
 after_requests : (q : ℕ) (rs : List RequestRow) (o : Option Sums) → After (requests_of q rs) (given o) (given (fold (request_step q) o rs))
 after_requests q [] o = record { asked = sym (add-zero (given o).asked); delays = sym (append-nil (given o).delays); windows = refl; missed = refl }
 after_requests q (r ∷ rs) o =
-    elim (r.key == q) as (λ b. After (cond b (r ∷ requests_of q rs) (requests_of q rs)) (given o) (given (fold (request_step q) (cond b (Some (with_request (given o) r)) o) rs))) [
+    elim (lease_asked r == q) as (λ b. After (cond b (r ∷ requests_of q rs) (requests_of q rs)) (given o) (given (fold (request_step q) (cond b (Some (with_request (given o) r)) o) rs))) [
       | true ↦ one_before r (requests_of q rs) (given o) _ (after_requests q rs (Some (with_request (given o) r)))
       | false ↦ after_requests q rs o
     ]
@@ -76,7 +77,7 @@ lease_before l ls s t a = record {
 after_leases : (q : ℕ) (ls : List LeaseRow) (o : Option Sums) → Behind (leases_of q ls) (given o) (given (fold (lease_step q) o ls))
 after_leases q [] o = record { asked = refl; delays = refl; windows = sym (add-zero (given o).windows); missed = sym (add-zero (given o).missed) }
 after_leases q (l ∷ ls) o =
-    elim (l.key == q) as (λ b. Behind (cond b (l ∷ leases_of q ls) (leases_of q ls)) (given o) (given (fold (lease_step q) (cond b (Some (with_lease (given o) l)) o) ls))) [
+    elim (lease_told l == q) as (λ b. Behind (cond b (l ∷ leases_of q ls) (leases_of q ls)) (given o) (given (fold (lease_step q) (cond b (Some (with_lease (given o) l)) o) ls))) [
       | true ↦ lease_before l (leases_of q ls) (given o) _ (after_leases q ls (Some (with_lease (given o) l)))
       | false ↦ after_leases q ls o
     ]

@@ -1,4 +1,4 @@
--- What is told of each flow of a plan: sums over the rows of its requests and its leases.
+-- What is told of each lease of a plan: sums over the rows of its requests and its leases.
 use Rattle.std.specs.Prelude.{◌≡◌, ℕ, List}
 use Rattle.std.specs.List.{AllZip}
 use Rattle.std.specs.List.Sorted.{IsStrictlySortedBy}
@@ -11,11 +11,11 @@ use Rattle.map_stats.specs.declared.rows.FlowRow.{FlowRow}
 use Rattle.map_stats.specs.Sums.{Sums, sums_at}
 use Rattle.map_stats.specs.Summaries.{IsSummary}
 
--- the row of a key tells of its sums
+-- the row of a lease tells of its sums
 abbrev pub IsFlowRow : ℕ × Sums → FlowRow → Type 0
-IsFlowRow (key, p) row = (row.key ≡ key) × IsSummary p row.summary
+IsFlowRow (q, p) row = (row.lease ≡ q) × IsSummary p row.summary
 
--- a row for each key of a request or of a lease, in the order of the keys
+-- a row for each lease with a row, by channel, SID and lease
 pub record AreFlows (requests : List RequestRow) (leases : List LeaseRow) (rows : List FlowRow) : Type 0 where
   pub sums : List (ℕ × Sums)
   pub in_order : IsStrictlySortedBy nat_cmp (keys_of sums)

@@ -14,13 +14,13 @@ pub record Holds (ds : List Deed) (s : Stats) : Type 0 where
   pub uses : (q : ℕ) → get nat_cmp s.uses q ≡ tally_at (uses_of ds) q
   pub sids : (q : ℕ) → get nat_cmp s.sids q ≡ tally_at (sids_of ds) q
 
--- intervals of a channel are added
-pub record AddsIntervals (channel : ℕ) (found : List Interval) (old new : Stats) : Type 0 where
+-- intervals of a channel are added, where SIDs have these leases
+pub record AddsIntervals (since : ℕ → ℕ) (channel : ℕ) (found : List Interval) (old new : Stats) : Type 0 where
   pub uses : (q : ℕ) → get nat_cmp new.uses q ≡ fold (tally_step q) (get nat_cmp old.uses q) (map (use_given channel) found)
-  pub sids : (q : ℕ) → get nat_cmp new.sids q ≡ fold (tally_step q) (get nat_cmp old.sids q) (flat_map (sid_given channel) found)
+  pub sids : (q : ℕ) → get nat_cmp new.sids q ≡ fold (tally_step q) (get nat_cmp old.sids q) (flat_map (sid_given since channel) found)
 
 -- a deed is added
-pub record AddsDeed (d : Deed) (old new : Stats) : Type 0 where
+pub record AddsDeed (since : ℕ → ℕ) (d : Deed) (old new : Stats) : Type 0 where
   pub maps : (q : ℕ) → get nat_cmp new.maps q ≡ fold (tally_step q) (get nat_cmp old.maps q) (maps_in d)
   pub uses : (q : ℕ) → get nat_cmp new.uses q ≡ fold (tally_step q) (get nat_cmp old.uses q) (uses_in d)
-  pub sids : (q : ℕ) → get nat_cmp new.sids q ≡ fold (tally_step q) (get nat_cmp old.sids q) (sids_in d)
+  pub sids : (q : ℕ) → get nat_cmp new.sids q ≡ fold (tally_step q) (get nat_cmp old.sids q) (sids_in since d)

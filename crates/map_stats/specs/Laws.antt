@@ -5,14 +5,14 @@ use Rattle.plan_account.specs.declared.past.Fate.{Fate}
 use Rattle.plan_account.specs.declared.past.Fate.TheVariants as fates
 use Rattle.plan_account.specs.declared.past.LeaseRow.{LeaseRow}
 use Rattle.plan_account.specs.declared.past.RequestRow.{RequestRow}
-use Rattle.map_stats.specs.Sums.{Sums, sums_at}
+use Rattle.map_stats.specs.Sums.{Sums, lease_asked, lease_told, sums_at}
 
--- the rows of a key
+-- the rows of a lease
 abbrev pub requests_of : ℕ → List RequestRow → List RequestRow
-requests_of q rs = filter (λ r. r.key == q) rs
+requests_of q rs = filter (λ r. lease_asked r == q) rs
 
 abbrev pub leases_of : ℕ → List LeaseRow → List LeaseRow
-leases_of q ls = filter (λ l. l.key == q) ls
+leases_of q ls = filter (λ l. lease_told l == q) ls
 
 -- the delay of a request, if it was granted
 abbrev pub delay_in : ℕ → Fate → List ℕ
@@ -29,7 +29,7 @@ windows_in l = l.windows
 abbrev pub missed_in : LeaseRow → ℕ
 missed_in l = l.missed
 
--- so many requests as there are rows of the key, the delays of those that were granted, and all windows of its leases
+-- so many requests as there are rows of the lease, the delays of those that were granted, and all its windows
 pub record IsSumOf (rs : List RequestRow) (ls : List LeaseRow) (s : Sums) : Type 0 where
   pub asked : s.asked ≡ length rs
   pub delays : s.delays ≡ flat_map delay_of rs

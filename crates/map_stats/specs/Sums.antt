@@ -1,5 +1,5 @@
--- The sums over the rows of requests and of leases, by key.
-use Rattle.std.specs.Prelude.{ℕ, ◌+◌, ◌-◌, ◌==◌, if◌then◌else◌, List, [], ◌∷◌, ◌++◌, fold, Option, Some, None}
+-- The sums over the rows of requests and of leases, by lease.
+use Rattle.std.specs.Prelude.{ℕ, ◌+◌, ◌-◌, ◌*◌, ◌^◌, ◌==◌, if◌then◌else◌, List, [], ◌∷◌, ◌++◌, fold, Option, Some, None}
 use Rattle.std.specs.Prelude.{unwrap_or}
 use Rattle.plan_account.specs.declared.past.Fate.{Fate}
 use Rattle.plan_account.specs.declared.past.Fate.TheVariants as fates
@@ -32,13 +32,24 @@ with_request s r = with_fate s r r.fate
 abbrev pub with_lease : Sums → LeaseRow → Sums
 with_lease s l = record s { windows = s.windows + l.windows; missed = s.missed + l.missed }
 
--- at a key, with a row more
+-- a lease of the SID of a key as one number
+abbrev pub lease_key : (key since : ℕ) → ℕ
+lease_key key since = key * 2 ^ 64 + since
+
+-- under which lease a request was accepted, and which lease a row is of
+abbrev pub lease_asked : RequestRow → ℕ
+lease_asked r = lease_key r.key r.since
+
+abbrev pub lease_told : LeaseRow → ℕ
+lease_told l = lease_key l.key l.since
+
+-- of a lease, with a row more
 abbrev pub request_step : ℕ → Option Sums → RequestRow → Option Sums
-request_step q s r = if r.key == q then Some (with_request (unwrap_or s no_sums) r) else s
+request_step q s r = if lease_asked r == q then Some (with_request (unwrap_or s no_sums) r) else s
 
 abbrev pub lease_step : ℕ → Option Sums → LeaseRow → Option Sums
-lease_step q s l = if l.key == q then Some (with_lease (unwrap_or s no_sums) l) else s
+lease_step q s l = if lease_told l == q then Some (with_lease (unwrap_or s no_sums) l) else s
 
--- over all rows of a key, if it has one
+-- over all rows of a lease, if it has one
 abbrev pub sums_at : List RequestRow → List LeaseRow → ℕ → Option Sums
 sums_at requests leases q = fold (lease_step q) (fold (request_step q) None requests) leases

@@ -1,4 +1,4 @@
-//! What is told of a flow as lines, each with its line's end.
+//! What is told of a lease as lines, each with its line's end.
 
 ghost use Rattle.std.specs.Prelude.{◌≡◌, ◌≢◌, IfOk, string_bytes};
 ghost use Rattle.map_stats.specs.FlowTexts.{flow_head, requests_line, fraction, delays_line, waits_line, windows_line};
@@ -6,25 +6,27 @@ ghost use Rattle.map_stats.specs.FlowTexts.{flow_lines};
 
 use crate::rows::FlowRow;
 use crate::summary::{Delays, Summary, Waits};
+use crate::texts::first_words;
 use plan_account::why_name;
 use std::alloc::{AllocError, Global};
 
-fn head(alloc: Global, key: u32) -> Result<String, AllocError>
-    ensures { IfOk result (λ text. string_bytes text ≡ flow_head key) }
+fn head(alloc: Global, lease: u128) -> Result<String, AllocError>
+    ensures { IfOk result (λ text. string_bytes text ≡ flow_head lease) }
 {
-    let channel = key / (1 << 16);
-    let sid = key % (1 << 16);
-    format!(in alloc; "channel {channel} sid {sid}")
+    let channel = lease / (1 << 80);
+    let sid = lease / (1 << 64) % (1 << 16);
+    let first = first_words(alloc, lease % (1 << 64))?;
+    format!(in alloc; "channel {channel} sid {sid}{first}")
 }
 
-fn requests_line(alloc: Global, key: u32, summary: &Summary) -> Result<String, AllocError>
-    ensures { IfOk result (λ text. string_bytes text ≡ requests_line key summary.now) }
+fn requests_line(alloc: Global, lease: u128, summary: &Summary) -> Result<String, AllocError>
+    ensures { IfOk result (λ text. string_bytes text ≡ requests_line lease summary.now) }
 {
     let asked = summary.asked;
     if asked == 0 {
         return Ok(String::new(alloc));
     }
-    let head = head(alloc, key)?;
+    let head = head(alloc, lease)?;
     let granted = summary.delays.count;
     let waiting = summary.waiting();
     let gone = summary.gone();
@@ -43,8 +45,8 @@ pub fn fraction(alloc: Global, whole: u64, count: u64) -> Result<String, AllocEr
     format!(in alloc; "{units}.{tenths}{hundredths}")
 }
 
-fn delays_line(alloc: Global, key: u32, delays: &Delays) -> Result<String, AllocError>
-    ensures { IfOk result (λ text. string_bytes text ≡ delays_line key delays.now) }
+fn delays_line(alloc: Global, lease: u128, delays: &Delays) -> Result<String, AllocError>
+    ensures { IfOk result (λ text. string_bytes text ≡ delays_line lease delays.now) }
 {
     let Delays {
         count,
@@ -55,43 +57,43 @@ fn delays_line(alloc: Global, key: u32, delays: &Delays) -> Result<String, Alloc
     if count == 0 {
         return Ok(String::new(alloc));
     }
-    let head = head(alloc, key)?;
+    let head = head(alloc, lease)?;
     let mean = fraction(alloc, sum, count)?;
     format!(in alloc; "{head} delay mean {mean} p99 {most} longest {longest}\n")
 }
 
-fn waits_line(alloc: Global, key: u32, waits: Option<Waits>) -> Result<String, AllocError>
-    ensures { IfOk result (λ text. string_bytes text ≡ waits_line key waits) }
+fn waits_line(alloc: Global, lease: u128, waits: Option<Waits>) -> Result<String, AllocError>
+    ensures { IfOk result (λ text. string_bytes text ≡ waits_line lease waits) }
 {
     let Some(Waits { n, sent, why }) = waits else {
         return Ok(String::new(alloc));
     };
-    let head = head(alloc, key)?;
+    let head = head(alloc, lease)?;
     let why = why_name(why);
     format!(in alloc; "{head} waits {n} sent {sent} {why}\n")
 }
 
-fn windows_line(alloc: Global, key: u32, summary: &Summary) -> Result<String, AllocError>
-    ensures { IfOk result (λ text. string_bytes text ≡ windows_line key summary.now) }
+fn windows_line(alloc: Global, lease: u128, summary: &Summary) -> Result<String, AllocError>
+    ensures { IfOk result (λ text. string_bytes text ≡ windows_line lease summary.now) }
 {
     let windows = summary.windows;
     if windows == 0 {
         return Ok(String::new(alloc));
     }
-    let head = head(alloc, key)?;
+    let head = head(alloc, lease)?;
     let missed = summary.missed;
     format!(in alloc; "{head} windows {windows} missed {missed}\n")
 }
 
-/// The lines of a flow: its requests, their delays, the one that waits, its windows.
+/// The lines of a lease: its requests, their delays, the one that waits, its windows.
 pub fn flow_text(alloc: Global, row: &FlowRow) -> Result<String, AllocError>
     ensures { IfOk result (λ text. string_bytes text ≡ flow_lines row.now) }
 {
-    let FlowRow { key, summary } = *row;
-    let requests = requests_line(alloc, key, &summary)?;
-    let delays = delays_line(alloc, key, &summary.delays)?;
-    let waits = waits_line(alloc, key, summary.waits)?;
-    let windows = windows_line(alloc, key, &summary)?;
+    let FlowRow { lease, summary } = *row;
+    let requests = requests_line(alloc, lease, &summary)?;
+    let delays = delays_line(alloc, lease, &summary.delays)?;
+    let waits = waits_line(alloc, lease, summary.waits)?;
+    let windows = windows_line(alloc, lease, &summary)?;
     let asked = format!(in alloc; "{requests}{delays}")?;
     let later = format!(in alloc; "{waits}{windows}")?;
     format!(in alloc; "{asked}{later}")

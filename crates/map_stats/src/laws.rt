@@ -2,7 +2,7 @@
 
 ghost use Rattle.map_stats.specs.Laws.{SumsAreOfRows};
 
-/// What is told of a flow is the sums over the rows of its key, which `draw` draws.
+/// What is told of a lease is the sums over its rows, which `draw` draws.
 pub fn sums_are_of_rows()
     ensures { SumsAreOfRows }
 {}

@@ -1,4 +1,5 @@
-//! What MAPs give: their minislots by channel, by use, and by SID; and how long the requests of flows waited.
+//! What MAPs give: their minislots by channel, by use, and by SID; and how long requests waited. SIDs count by
+//! lease.
 #![tactic(auto)]
 
 mod flow_texts;
@@ -15,5 +16,5 @@ pub use laws::sums_are_of_rows;
 pub use rows::{FlowRow, flow_rows};
 pub use stats::Stats;
 pub use summary::{Delays, Summary, Waits};
-pub use tally::{Tallies, Tally};
+pub use tally::{SidTallies, Tallies, Tally};
 pub use texts::{map_text, sid_text, use_text};

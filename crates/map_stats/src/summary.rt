@@ -1,4 +1,4 @@
-//! What is told of a flow: its requests, how long they waited, and its windows.
+//! What is told of a lease: its requests, how long they waited, and its windows.
 
 ghost use Rattle.std.specs.Prelude.{◌≡◌, ◌≤◌, IfOk, IfSome, sum, length};
 ghost use Rattle.map_stats.specs.Summaries.{at_rank, rank_99, AreDelays};
@@ -23,7 +23,7 @@ pub struct Delays {
     pub longest: u64,
 }
 
-/// What is told of a flow.
+/// What is told of a lease.
 #[derive(Clone, Copy)]
 pub struct Summary {
     pub asked: u64,

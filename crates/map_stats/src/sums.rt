@@ -1,9 +1,9 @@
-//! The sums over the rows of requests and of leases, by key.
+//! The sums over the rows of requests and of leases, by lease.
 
 ghost use Rattle.std.specs.Prelude.{◌≡◌, ◌+◌, ℕ, None, fold, unwrap_or, IfOk, OnOk};
 ghost use Rattle.std.specs.Ordering.{nat_cmp};
 ghost use Rattle.std.specs.BTreeMap.{get};
-ghost use Rattle.map_stats.specs.Sums.{lease_step, request_step, sums_at};
+ghost use Rattle.map_stats.specs.Sums.{lease_key, lease_step, request_step, sums_at};
 
 use crate::summary::{Summary, Waits, delays_of};
 use plan_account::{Fate, LeaseRow, RequestRow};
@@ -11,7 +11,7 @@ use std::alloc::{AllocError, Global};
 use std::collections::BTreeMap;
 use std::marker::Model;
 
-/// The sums over the rows of a flow.
+/// The sums over the rows of a lease.
 #[derive(Drop)]
 pub struct FlowSums {
     asked: u64,
@@ -35,8 +35,15 @@ impl Model for FlowSums {
     } };
 }
 
-/// Those of flows, by key.
-pub(crate) type SumsByKey = BTreeMap<u32, FlowSums>;
+/// Those of leases.
+pub(crate) type SumsByKey = BTreeMap<u128, FlowSums>;
+
+/// A lease of the SID of a key as one number.
+fn lease_key(key: u32, since: u64) -> u128
+    ensures { result ≡ lease_key key since }
+{
+    u128::from(key) * (1 << 64) + u128::from(since)
+}
 
 /// The sum of two counts, unless it is 2^64 or more.
 fn both(a: u64, b: u64) -> Result<u64, AllocError>
@@ -88,7 +95,7 @@ impl FlowSums {
         Ok(())
     }
 
-    /// What is told of the flow.
+    /// What is told of the lease.
     pub(crate) fn summary(&self, alloc: Global) -> Result<Summary, AllocError>
         ensures { IfOk result (IsSummary self.now) }
     {
@@ -105,24 +112,26 @@ impl FlowSums {
 fn put_request(alloc: Global, sums: &mut SumsByKey, row: &RequestRow) -> Result<(), AllocError>
     ensures { OnOk result ((q : ℕ) → get nat_cmp sums.new q ≡ request_step q (get nat_cmp sums.old q) row.now) }
 {
-    if let Some(had) = sums.get_mut(&row.key) {
+    let lease = lease_key(row.key, row.since);
+    if let Some(had) = sums.get_mut(&lease) {
         return had.add_request(row);
     }
     let mut first = FlowSums::new(alloc);
     first.add_request(row)?;
-    sums.insert(row.key, first)?;
+    sums.insert(lease, first)?;
     Ok(())
 }
 
 fn put_lease(alloc: Global, sums: &mut SumsByKey, row: &LeaseRow) -> Result<(), AllocError>
     ensures { OnOk result ((q : ℕ) → get nat_cmp sums.new q ≡ lease_step q (get nat_cmp sums.old q) row.now) }
 {
-    if let Some(had) = sums.get_mut(&row.key) {
+    let lease = lease_key(row.key, row.since);
+    if let Some(had) = sums.get_mut(&lease) {
         return had.add_lease(row);
     }
     let mut first = FlowSums::new(alloc);
     first.add_lease(row)?;
-    sums.insert(row.key, first)?;
+    sums.insert(lease, first)?;
     Ok(())
 }
 
@@ -144,7 +153,7 @@ fn put_leases(alloc: Global, sums: &mut SumsByKey, rows: &[LeaseRow]) -> Result<
     Ok(())
 }
 
-/// The sums over rows, by key.
+/// The sums over rows, by lease.
 pub(crate) fn sums_of(
     alloc: Global,
     requests: &[RequestRow],

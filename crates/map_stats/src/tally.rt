@@ -18,6 +18,9 @@ pub struct Tally {
 /// Tallies by key.
 pub type Tallies = BTreeMap<u32, Tally>;
 
+/// Those of the uses of SIDs, by longer keys.
+pub type SidTallies = BTreeMap<u128, Tally>;
+
 /// With one of so many minislots more, unless a number would pass 2^64 - 1.
 fn more(tally: Option<Tally>, minislots: u16) -> Option<Tally>
     ensures { IfSome result (λ now. now ≡ more tally minislots) }
@@ -37,6 +40,24 @@ fn more(tally: Option<Tally>, minislots: u16) -> Option<Tally>
 /// Adds one of so many minislots under a key. Where there is no memory, or a number would pass 2^64 - 1, nothing
 /// changes.
 pub(crate) fn add(tallies: &mut Tallies, key: u32, minislots: u16) -> Result<(), AllocError>
+    ensures { OnOk result ((q : ℕ) → get nat_cmp tallies.new q ≡ tally_step q (get nat_cmp tallies.old q) (key, minislots)) }
+{
+    let had = tallies.get(&key).copied();
+    match more(had, minislots) {
+        Some(now) => {
+            tallies.insert(key, now)?;
+            Ok(())
+        }
+        None => Err(AllocError),
+    }
+}
+
+/// The same under a longer key.
+pub(crate) fn add_to_sid(
+    tallies: &mut SidTallies,
+    key: u128,
+    minislots: u16,
+) -> Result<(), AllocError>
     ensures { OnOk result ((q : ℕ) → get nat_cmp tallies.new q ≡ tally_step q (get nat_cmp tallies.old q) (key, minislots)) }
 {
     let had = tallies.get(&key).copied();

@@ -1,5 +1,6 @@
 -- What has happened to flows, in tables by channel and by key.
-use Rattle.std.specs.Prelude.{◌≡◌, ℕ, ◌/◌, ◌^◌, ◌==◌, if◌then◌else◌, List, length, fold, Option, Some, unwrap_or}
+use Rattle.std.specs.Prelude.{◌≡◌, ℕ, ◌/◌, ◌^◌, ◌==◌, if◌then◌else◌, List, length, fold, Option, Some, None}
+use Rattle.std.specs.Prelude.{unwrap_or}
 use Rattle.std.specs.Ordering.{nat_cmp}
 use Rattle.std.specs.BTreeMap.{get}
 use Rattle.plan_account.specs.declared.deed.Deed.{Deed}
@@ -13,6 +14,15 @@ use Rattle.plan_account.specs.Pasts.{Past, At, at_step, at_key, no_reach, no_pas
 -- what the tables have at a key
 abbrev pub at_in : Flows → ℕ → At
 at_in s q = record { reach = unwrap_or (get nat_cmp s.reaches (q / 2 ^ 16)) no_reach; past = get nat_cmp s.pasts q }
+
+-- what the last lease at a key is known by
+abbrev pub since_at : Option Past → ℕ
+since_at None = 0
+since_at (Some p) = p.since
+
+-- the same by the tables
+abbrev pub since_in : Flows → ℕ → ℕ
+since_in s q = since_at (at_in s q).past
 
 -- the tables hold what these deeds tell
 pub record HoldsFlows (ds : List Deed) (s : Flows) : Type 0 where

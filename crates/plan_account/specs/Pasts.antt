@@ -16,12 +16,13 @@ use Rattle.plan_account.specs.declared.reach.Term.{Term}
 use Rattle.plan_account.specs.Whys.{why_in}
 use Rattle.plan_account.specs.Windows.{windows_of, count_past, count_missed}
 
--- its key; the term of its last lease; the lease, while its flow isn't over; the request that waits, and the last MAP
--- that told so; the starts of grants that no request asked for, since the lease; and the rows of requests and of leases
--- that are over
+-- its key; the term of its last lease, and what that is known by; the lease, while its flow isn't over; the request
+-- that waits, and the last MAP that told so; the starts of grants that no request asked for, since the lease; and the
+-- rows of requests and of leases that are over
 pub record Past : Type 0 where
   pub key : ℕ
   pub term : Option Term
+  pub since : ℕ
   pub lease : Option Lease
   pub ask : Option Ask
   pub told : Option Told
@@ -30,17 +31,23 @@ pub record Past : Type 0 where
   pub leases : List LeaseRow
 
 abbrev pub no_past : ℕ → Past
-no_past key = record { key = key; term = None; lease = None; ask = None; told = None; starts = []; requests = []; leases = [] }
+no_past key = record { key = key; term = None; since = 0; lease = None; ask = None; told = None; starts = []; requests = []; leases = [] }
 
 -- ---- rows
 
-abbrev pub request_row : ℕ → Ask → Option Told → Fate → RequestRow
-request_row key a told fate = record { key = key; command = a.command; n = a.n; sent = a.sent; told = told; fate = fate }
+abbrev pub request_row : (key since : ℕ) → Ask → Option Told → Fate → RequestRow
+request_row key since a told fate = record { key = key; since = since; command = a.command; n = a.n; sent = a.sent; told = told; fate = fate }
 
 -- the row of a lease whose flow goes until then, with the windows that passed before, and those without a grant
-abbrev pub lease_row : ℕ → Lease → (until : ℕ) → (starts : List ℕ) → LeaseRow
-lease_row key l until starts =
-    record { key = key; lease = l; until = until; windows = count_past (windows_of l.kind) until; missed = count_missed (windows_of l.kind) until starts }
+abbrev pub lease_row : (key since : ℕ) → Lease → (until : ℕ) → (starts : List ℕ) → LeaseRow
+lease_row key since l until starts = record {
+  key = key;
+  since = since;
+  lease = l;
+  until = until;
+  windows = count_past (windows_of l.kind) until;
+  missed = count_missed (windows_of l.kind) until starts;
+}
 
 -- until when a flow goes: to the end of the channel's MAPs, or of its lease
 abbrev pub until : Lease → (end : ℕ) → ℕ
@@ -51,7 +58,7 @@ until l end = min end (l.term.last + 1)
 -- the request that waits, if one does, has this fate
 abbrev pub asked_on : Option Ask → Past → Fate → Past
 asked_on None p fate = p
-asked_on (Some a) p fate = record p { ask = None; told = None; requests = p.requests ++ request_row p.key a p.told fate ∷ [] }
+asked_on (Some a) p fate = record p { ask = None; told = None; requests = p.requests ++ request_row p.key p.since a p.told fate ∷ [] }
 
 abbrev pub answered : Past → Fate → Past
 answered p fate = asked_on p.ask p fate
@@ -59,7 +66,7 @@ answered p fate = asked_on p.ask p fate
 -- the lease, if its flow isn't over, ends where the channel's MAPs end here
 abbrev pub closed_on : Option Lease → Past → (end : ℕ) → Past
 closed_on None p end = p
-closed_on (Some l) p end = record p { lease = None; starts = []; leases = p.leases ++ lease_row p.key l (until l end) p.starts ∷ [] }
+closed_on (Some l) p end = record p { lease = None; starts = []; leases = p.leases ++ lease_row p.key p.since l (until l end) p.starts ∷ [] }
 
 abbrev pub closed : Past → (end : ℕ) → Past
 closed p end = closed_on p.lease p end
@@ -72,9 +79,14 @@ abbrev pub is_term : Option Term → Term → Bool
 is_term None t = false
 is_term (Some o) t = (o.first == t.first) && (o.last == t.last)
 
+-- a SID's first lease is known by 0, a later one by its first minislot
+abbrev pub since_of : (before : Option Term) → Term → ℕ
+since_of None t = 0
+since_of (Some before) t = t.first
+
 -- a lease that is told again changes nothing
 abbrev pub with_lease : Past → (end : ℕ) → Lease → Past
-with_lease p end l = if is_term p.term l.term then p else record (settled p end) { term = Some l.term; lease = Some l }
+with_lease p end l = if is_term p.term l.term then p else record (settled p end) { term = Some l.term; since = since_of p.term l.term; lease = Some l }
 
 -- a request is the one that waits: one that did is gone
 abbrev pub with_ask : Past → Ask → Past

@@ -8,6 +8,7 @@ ghost use Rattle.plan_account.specs.declared.deed.Deed.{Deed};
 ghost use Rattle.plan_account.specs.Deeds.{quiet_deed, channel_deed, flow_deed, BodyFault, IsWhole, IsDeedOf};
 ghost use Rattle.plan_account.specs.Deeds.{IsDeedFault, channels_of, keep_of};
 
+use crate::reach::Term;
 use crate::shown::ShownMap;
 use flow_state::FlowKind;
 use grant_machine::{Command, Output};
@@ -84,16 +85,16 @@ fn channel_deed(command: &Command, ch: u8) -> Deed
 }
 
 /// The flow of a command under the lease of its SID.
-fn flow_deed(command: &Command, modem: u32, ch: u8, sid: u16, first: u64, last: u64) -> Deed
-    ensures { result ≡ flow_deed command.now modem ch sid first last }
+fn flow_deed(command: &Command, modem: u32, ch: u8, sid: u16, term: Term) -> Deed
+    ensures { result ≡ flow_deed command.now modem ch sid term.first term.last }
 {
     match *command {
         Command::Flow { kind, .. } => Deed::Flow {
             ch,
             sid,
             modem,
-            first,
-            last,
+            first: term.first,
+            last: term.last,
             kind,
         },
         Command::Request { .. } => Deed::Other,
@@ -168,7 +169,13 @@ fn deed_told(alloc: Global, command: &Command, output: &Output) -> Result<Deed, 
             sid,
             first,
             last,
-        } => Ok(flow_deed(command, *modem, *ch, *sid, *first, *last)),
+        } => {
+            let term = Term {
+                first: *first,
+                last: *last,
+            };
+            Ok(flow_deed(command, *modem, *ch, *sid, term))
+        }
         Output::Map {
             ch,
             start,

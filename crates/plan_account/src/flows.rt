@@ -15,6 +15,15 @@ use map_body::{Element, Interval, Sid};
 use std::alloc::{AllocError, Global};
 use std::collections::BTreeMap;
 
+/// A MAP that was cut: its channel, its first minislot, how many it has, and how many its cut kept free.
+#[derive(Clone, Copy)]
+struct Cut {
+    ch: u8,
+    start: u64,
+    len: u16,
+    keep: u16,
+}
+
 /// How many deeds were added, the MAPs of channels, and what has happened to flows, by channel and SID.
 #[derive(Drop)]
 pub struct Flows {
@@ -66,7 +75,7 @@ impl Flows {
     ghost use Rattle.plan_account.specs.declared.deed.Deed.{Deed};
     ghost use Rattle.plan_account.specs.declared.happening.Happening.TheVariants.{Mapped};
     ghost use Rattle.plan_account.specs.Happenings.{key_of, given_by, left_by, waits_by, mapped, tells};
-    ghost use Rattle.plan_account.specs.FlowsHeld.{HoldsFlows, Grows, IsOfFlow};
+    ghost use Rattle.plan_account.specs.FlowsHeld.{HoldsFlows, Grows, IsOfFlow, since_in};
 
     /// Of no deed.
     pub fn new(alloc: Global) -> Flows
@@ -76,6 +85,16 @@ impl Flows {
             count: 0,
             reaches: BTreeMap::new(alloc),
             pasts: BTreeMap::new(alloc),
+        }
+    }
+
+    /// The lease of a SID: 0 while it has had one lease or none, else the first minislot of its last one.
+    pub fn since(&self, ch: u8, sid: u16) -> u64
+        ensures { result ≡ since_in self.now (key_of ch sid) }
+    {
+        match self.pasts.get(&key_of(ch, sid)) {
+            Some(past) => past.since(),
+            None => 0,
         }
     }
 
@@ -158,18 +177,16 @@ impl Flows {
     }
 
     #[tactic(auto, using(crate::proofs::Growing::grows_both))]
-    fn add_map(
-        &mut self,
-        alloc: Global,
-        ch: u8,
-        start: u64,
-        len: u16,
-        keep: u16,
-        map: &ShownMap,
-    ) -> Result<(), AllocError>
-        requires { start < 2 ^ 63 }
-        ensures { OnOk result (Grows (mapped ch start len keep map.now) self.old self.new) }
+    fn add_map(&mut self, alloc: Global, cut: Cut, map: &ShownMap) -> Result<(), AllocError>
+        requires { cut.start < 2 ^ 63 }
+        ensures { OnOk result (Grows (mapped cut.ch cut.start cut.len cut.keep map.now) self.old self.new) }
     {
+        let Cut {
+            ch,
+            start,
+            len,
+            keep,
+        } = cut;
         let found = map.intervals();
         self.add_intervals(alloc, ch, start, found)?;
         self.add_end(ch, start, start + u64::from(len), left_by(keep, found))?;
@@ -213,7 +230,15 @@ impl Flows {
                 len,
                 keep,
                 map,
-            } => self.add_map(alloc, *ch, start.get(), *len, *keep, map),
+            } => {
+                let cut = Cut {
+                    ch: *ch,
+                    start: start.get(),
+                    len: *len,
+                    keep: *keep,
+                };
+                self.add_map(alloc, cut, map)
+            }
             Deed::Channel(_) => Ok(()),
             Deed::Other => Ok(()),
         }

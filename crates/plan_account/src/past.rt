@@ -2,7 +2,7 @@
 
 ghost use Rattle.std.specs.Prelude.{◌≡◌, ◌+◌, IfOk};
 ghost use Rattle.plan_account.specs.Accounts.{told_why, why_last};
-ghost use Rattle.plan_account.specs.Pasts.{fate_on, is_term, lease_row, request_row, until};
+ghost use Rattle.plan_account.specs.Pasts.{fate_on, is_term, lease_row, request_row, since_of, until};
 
 use crate::happening::Happening;
 use crate::reach::{Ask, Lease, Reach, Term};
@@ -33,6 +33,8 @@ pub enum Fate {
 #[derive(Clone, Copy)]
 pub struct RequestRow {
     pub key: u32,
+    /// The lease under which it was accepted: 0 for the SID's first one, else that one's first minislot.
+    pub since: u64,
     pub command: u64,
     pub n: u16,
     pub sent: u64,
@@ -45,6 +47,8 @@ pub struct RequestRow {
 #[derive(Clone, Copy)]
 pub struct LeaseRow {
     pub key: u32,
+    /// 0 of the SID's first lease, else its first minislot.
+    pub since: u64,
     pub lease: Lease,
     /// Where its flow ended: with a drop, with the lease, or with the channel's last MAP.
     pub until: u64,
@@ -80,6 +84,7 @@ fn told_why(told: Option<Told>) -> Option<Why>
 pub struct FlowPast {
     key: u32,
     term: Option<Term>,
+    since: u64,
     lease: Option<Lease>,
     ask: Option<Ask>,
     told: Option<Told>,
@@ -96,6 +101,7 @@ impl Model for FlowPast {
     ghost view = { λ p. record {
       key = p.key;
       term = p.term;
+      since = p.since;
       lease = p.lease;
       ask = p.ask;
       told = p.told;
@@ -112,8 +118,8 @@ pub(crate) fn next(count: u64) -> Result<u64, AllocError>
     count.checked_add(1).ok_or(AllocError)
 }
 
-fn request_row(key: u32, ask: Ask, told: Option<Told>, fate: Fate) -> RequestRow
-    ensures { result ≡ request_row key ask told fate }
+fn request_row(key: u32, since: u64, ask: Ask, told: Option<Told>, fate: Fate) -> RequestRow
+    ensures { result ≡ request_row key since ask told fate }
 {
     let Ask {
         command,
@@ -123,6 +129,7 @@ fn request_row(key: u32, ask: Ask, told: Option<Told>, fate: Fate) -> RequestRow
     } = ask;
     RequestRow {
         key,
+        since,
         command,
         n,
         sent,
@@ -138,12 +145,13 @@ fn until(lease: Lease, end: u64) -> u64
     end.min(lease.term.last.saturating_add(1))
 }
 
-fn lease_row(key: u32, lease: Lease, until: u64, starts: &[u64]) -> LeaseRow
-    ensures { result ≡ lease_row key lease until starts.now }
+fn lease_row(key: u32, since: u64, lease: Lease, until: u64, starts: &[u64]) -> LeaseRow
+    ensures { result ≡ lease_row key since lease until starts.now }
 {
     let windows = windows_of(lease.kind);
     LeaseRow {
         key,
+        since,
         lease,
         until,
         windows: count_past(windows, until),
@@ -163,6 +171,7 @@ impl FlowPast {
         FlowPast {
             key,
             term: None,
+            since: 0,
             lease: None,
             ask: None,
             told: None,
@@ -172,12 +181,19 @@ impl FlowPast {
         }
     }
 
+    /// Its lease: 0 of the SID's first one, else that one's first minislot.
+    pub(crate) fn since(&self) -> u64
+        ensures { result ≡ self.now.since }
+    {
+        self.since
+    }
+
     /// The request that waits has this fate.
     fn answer(&mut self, fate: Fate) -> Result<(), AllocError>
         ensures { OnOk result (self.new ≡ answered self.old fate) }
     {
         if let Some(ask) = self.ask {
-            let row = request_row(self.key, ask, self.told, fate);
+            let row = request_row(self.key, self.since, ask, self.told, fate);
             self.requests.push(row)?;
             self.ask = None;
             self.told = None;
@@ -190,7 +206,8 @@ impl FlowPast {
         ensures { OnOk result (self.new ≡ closed self.old end) }
     {
         if let Some(lease) = self.lease {
-            let row = lease_row(self.key, lease, until(lease, end), &self.starts);
+            let until = until(lease, end);
+            let row = lease_row(self.key, self.since, lease, until, &self.starts);
             self.leases.push(row)?;
             self.lease = None;
             self.starts.clear();
@@ -213,6 +230,7 @@ impl FlowPast {
             return Ok(());
         }
         self.settle(end)?;
+        self.since = since_of(self.term, lease.term);
         self.term = Some(lease.term);
         self.lease = Some(lease);
         Ok(())
@@ -306,7 +324,7 @@ impl FlowPast {
         out.extend_from_slice(&self.requests)?;
         if let Some(ask) = self.ask {
             let fate = fate_on(self.term, self.ask, reach);
-            out.push(request_row(self.key, ask, self.told, fate))?;
+            out.push(request_row(self.key, self.since, ask, self.told, fate))?;
         }
         Ok(())
     }
@@ -318,7 +336,7 @@ impl FlowPast {
         out.extend_from_slice(&self.leases)?;
         if let Some(lease) = self.lease {
             let until = until(lease, reach.end);
-            out.push(lease_row(self.key, lease, until, &self.starts))?;
+            out.push(lease_row(self.key, self.since, lease, until, &self.starts))?;
         }
         Ok(())
     }
@@ -335,6 +353,16 @@ fn fate_on(term: Option<Term>, ask: Option<Ask>, reach: Reach) -> Fate
         Fate::Waits(why_in(reach, term.last, ask.n, ask.maps))
     } else {
         Fate::Gone
+    }
+}
+
+/// What a lease behind this one, if there is one, is known by.
+fn since_of(before: Option<Term>, term: Term) -> u64
+    ensures { result ≡ since_of before term }
+{
+    match before {
+        Some(_) => term.first,
+        None => 0,
     }
 }
 

@@ -5,6 +5,7 @@ ghost use Rattle.plan_account.specs.Whys.{why_in};
 ghost use Rattle.plan_account.specs.WhyTexts.{gap_words, kept_words, placement_words, why_name, why_words};
 
 use crate::reach::Reach;
+use grant_machine_parts::MOST_PLACEMENTS;
 use std::alloc::{AllocError, Global};
 
 /// Why a request waits: the first of these that holds.
@@ -22,9 +23,6 @@ pub enum Why {
     Kept(u16),
 }
 
-/// How many placements a MAP may have.
-const MOST_PLACEMENTS: u64 = 60;
-
 /// Why a request for n minislots waits, of a lease with this last minislot, that was accepted behind so many MAPs.
 pub(crate) fn why_in(reach: Reach, last: u64, n: u16, maps: u64) -> Why
     ensures { result ≡ why_in reach last n maps }
@@ -36,7 +34,7 @@ pub(crate) fn why_in(reach: Reach, last: u64, n: u16, maps: u64) -> Why
         Why::NoMap
     } else if reach.left.gap < n {
         Why::NoGap(reach.left.gap)
-    } else if reach.left.placed >= MOST_PLACEMENTS {
+    } else if reach.left.placed >= MOST_PLACEMENTS as u64 {
         Why::Placements
     } else {
         Why::Kept(reach.left.keep)

@@ -29,10 +29,10 @@ Counted cs i rows s f = (ds : List Deed) × Did cs i rows ds × Holds ds s × Ho
 
 pub one_counted : (cs : List Command) (i : ℕ) (b : Command) (m m' : Rows) (s t : Stats) (f g : Flows) (d : Deed) → i < length cs
     → Counted cs i m s f → m' ≡ (step m (get_or cs i b)).rows → IsDeedOf (get_or cs i b) (step m (get_or cs i b)).output d
-    → ((ds : List Deed) → Holds ds s → Holds (ds ++ d ∷ []) t) → ((ds : List Deed) → HoldsFlows ds f → HoldsFlows (ds ++ d ∷ []) g)
+    → ((ds : List Deed) → Holds ds s → HoldsFlows ds f → Holds (ds ++ d ∷ []) t) → ((ds : List Deed) → HoldsFlows ds f → HoldsFlows (ds ++ d ∷ []) g)
     → Counted cs (i + 1) m' t g
 one_counted cs i b m m' s t f g d below (ds, did, holds, flows) rows is adds grows =
-    (ds ++ d ∷ [], one_done cs i b m m' ds d below did rows is, adds ds holds, grows ds flows)
+    (ds ++ d ∷ [], one_done cs i b m m' ds d below did rows is, adds ds holds flows, grows ds flows)
 
 -- tables in the order of their keys are the tallies, and rows of flows the sums, of one account
 pub are_stats : (cs : List Command) (s : Stats) (f : Flows) (rows : List FlowRow) → IsOrdered nat_cmp s.maps → IsOrdered nat_cmp s.uses → IsOrdered nat_cmp s.sids

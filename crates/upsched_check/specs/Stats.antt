@@ -36,7 +36,7 @@ minislots_in (Some t) = t.minislots
 abbrev pub whole_of : List (ℕ × Tally) → ℕ → ℕ
 whole_of maps channel = minislots_in (lookup (is_at (nat_cmp channel)) maps)
 
--- a line for each use on a channel, and one for each use of a SID
+-- a line for each use on a channel, and one for each use of a SID's lease
 abbrev pub use_line : List (ℕ × Tally) → ℕ × Tally → List ℕ
 use_line maps row = use_text row.0 row.1 (whole_of maps (row.0 / 16)) ++ 10 ∷ []
 
@@ -47,8 +47,8 @@ sid_line row = sid_text row.0 row.1 ++ 10 ∷ []
 abbrev pub stats_lines : List (ℕ × Tally) → List (ℕ × Tally) → List (ℕ × Tally) → List FlowRow → List ℕ
 stats_lines maps uses sids rows = flat_map map_line maps ++ flat_map (use_line maps) uses ++ flat_map sid_line sids ++ flat_map flow_lines rows
 
--- the tallies of an account: of its MAPs, of the intervals of these by channel and use, and of those by SID too; and the
--- sums over its requests and its leases
+-- the tallies of an account: of its MAPs, of the intervals of these by channel and use, and of those by SID and lease
+-- too; and the sums over the rows of each lease
 pub record AreStats (a : Rows) (maps uses sids : List (ℕ × Tally)) (rows : List FlowRow) : Type 0 where
   pub maps_are : AreTallies (maps_of a.deeds) maps
   pub uses_are : AreTallies (uses_of a.deeds) uses
@@ -59,7 +59,7 @@ pub record AreStats (a : Rows) (maps uses sids : List (ℕ × Tally)) (rows : Li
 abbrev pub HoldsBoth : List Command → Stats → Flows → Type 0
 HoldsBoth cs s f = (ds : List Deed) × AreDeeds cs (outputs_of cs) ds × Holds ds s × HoldsFlows ds f
 
--- rows of flows are the sums over the rows of requests and leases of deeds
+-- rows of flows are the sums over the rows of each lease of deeds
 abbrev pub TellsFlows : List Deed → List FlowRow → Type 0
 TellsFlows ds rows = (requests : List RequestRow) × (leases : List LeaseRow) × AreRequests ds requests × AreLeases ds leases × AreFlows requests leases rows
 

@@ -14,10 +14,10 @@ ghost use Rattle.upsched_check.specs.Plans.{IsKnownScript};
 ghost use Rattle.upsched_check.specs.StatsAsJson.{map_value, use_value, sid_value, stats_data, PrintsValues};
 ghost use Rattle.upsched_check.specs.StatsAsJson.{TellsStatsAsJson};
 
-use crate::plan_stats::{in_order, rows_of, stats_of, whole_of};
+use crate::plan_stats::{in_order, rows_of, sids_in_order, stats_of, whole_of};
 use crate::plan_words::{Refusal, StatsWords, commands_of};
 use json_stats::{flow_texts, map_text, sid_text, use_text};
-use map_stats::{FlowRow, Stats, Tallies, Tally};
+use map_stats::{FlowRow, SidTallies, Stats, Tallies, Tally};
 use std::alloc::Global;
 use std::io::{Read, Write};
 use upsched_ends::{Fault, Status};
@@ -73,7 +73,7 @@ fn print_uses<'a, O: Write>(
 
 fn print_sid<'a, O: Write>(
     alloc: Global,
-    key: u32,
+    key: u128,
     tally: &Tally,
     output: &mut O,
 ) -> Result<(), Fault<'a>>
@@ -83,7 +83,11 @@ fn print_sid<'a, O: Write>(
     print_line(text.as_str(), output)
 }
 
-fn print_sids<'a, O: Write>(alloc: Global, sids: &Tallies, output: &mut O) -> Result<(), Fault<'a>>
+fn print_sids<'a, O: Write>(
+    alloc: Global,
+    sids: &SidTallies,
+    output: &mut O,
+) -> Result<(), Fault<'a>>
     ensures { OnOk result (PrintsValues (map sid_value sids.now.entries) (O.contents output.old) (O.contents output.new)) }
 {
     for (key, tally) in sids {
@@ -133,7 +137,7 @@ fn print_rows<'a, O: Write>(
 {
     in_order(&stats.maps);
     in_order(&stats.uses);
-    in_order(&stats.sids);
+    sids_in_order(&stats.sids);
     print_maps(alloc, &stats.maps, output)?;
     print_uses(alloc, &stats.maps, &stats.uses, output)?;
     print_sids(alloc, &stats.sids, output)?;

@@ -18,7 +18,7 @@ use crate::accounts::{add_deed, deed_done};
 use crate::plan_words::{Refusal, StatsWords, commands_of};
 use grant_machine::{Command, Machine};
 use map_stats::{
-    FlowRow, Stats, Tallies, Tally, flow_rows, flow_text, map_text, sid_text, use_text,
+    FlowRow, SidTallies, Stats, Tallies, Tally, flow_rows, flow_text, map_text, sid_text, use_text,
 };
 use plan_account::{Deed, Flows, lease_rows, request_rows};
 use std::alloc::Global;
@@ -32,10 +32,10 @@ fn add_to<'a>(
     flows: &mut Flows,
     deed: &Deed,
 ) -> Result<(), Fault<'a>>
-    ensures stats { OnOk result ((ds : List Deed) → Holds ds stats.old → Holds (ds ++ deed.now ∷ []) stats.new) }
+    ensures stats { OnOk result ((ds : List Deed) → Holds ds stats.old → HoldsFlows ds flows.old → Holds (ds ++ deed.now ∷ []) stats.new) }
     ensures flows { OnOk result ((ds : List Deed) → HoldsFlows ds flows.old → HoldsFlows (ds ++ deed.now ∷ []) flows.new) }
 {
-    if stats.add(deed).is_err() {
+    if stats.add(flows, deed).is_err() {
         return Err(Fault::Memory);
     }
     add_deed(alloc, flows, deed)
@@ -55,7 +55,7 @@ pub(crate) fn stats_of<'a>(alloc: Global, commands: &[Command]) -> Result<(Stats
     Ok((stats, flows))
 }
 
-/// What is told of each flow.
+/// What is told of each lease.
 pub(crate) fn rows_of<'a>(alloc: Global, flows: &Flows) -> Result<Vec<FlowRow>, Fault<'a>>
     ensures { IfOk result (λ rows. (ds : List Deed) → HoldsFlows ds flows.now → TellsFlows ds rows.items) }
 {
@@ -133,7 +133,7 @@ fn print_uses<'a, O: Write>(
 
 fn print_sid<'a, O: Write>(
     alloc: Global,
-    key: u32,
+    key: u128,
     tally: &Tally,
     output: &mut O,
 ) -> Result<(), Fault<'a>>
@@ -144,7 +144,11 @@ fn print_sid<'a, O: Write>(
     Ok(())
 }
 
-fn print_sids<'a, O: Write>(alloc: Global, sids: &Tallies, output: &mut O) -> Result<(), Fault<'a>>
+fn print_sids<'a, O: Write>(
+    alloc: Global,
+    sids: &SidTallies,
+    output: &mut O,
+) -> Result<(), Fault<'a>>
     ensures { OnOk result (Appends (O.contents output.old) (O.contents output.new) (flat_map sid_line sids.now.entries)) }
 {
     for (key, tally) in sids {
@@ -181,6 +185,13 @@ pub(crate) fn in_order(tallies: &Tallies)
     let _count = tallies.len();
 }
 
+/// The same of one of SIDs.
+pub(crate) fn sids_in_order(tallies: &SidTallies)
+    ensures { IsOrdered nat_cmp tallies.now }
+{
+    let _count = tallies.len();
+}
+
 fn print_tallies<'a, O: Write>(
     alloc: Global,
     stats: &Stats,
@@ -193,7 +204,7 @@ fn print_tallies<'a, O: Write>(
 {
     in_order(&stats.maps);
     in_order(&stats.uses);
-    in_order(&stats.sids);
+    sids_in_order(&stats.sids);
     print_maps(alloc, &stats.maps, output)?;
     print_uses(alloc, &stats.maps, &stats.uses, output)?;
     print_sids(alloc, &stats.sids, output)?;
@@ -220,8 +231,9 @@ fn print_stats<'a, R: Read, O: Write>(
     print_tallies(alloc, &told.0, rows.as_slice(), output)
 }
 
-/// Applies a plan's commands to one scheduler and prints what its MAPs give: by channel, by use on each channel, and by
-/// SID and use. A fault of the plan, and a script without commands, are told in one line before anything is printed.
+/// Applies a plan's commands to one scheduler and prints what its MAPs give: by channel, by use on each channel, by
+/// SID, its lease and use, and then what is told of each lease. A fault of the plan, and a script without commands, are
+/// told in one line before anything is printed.
 pub fn stats<R: Read, O: Write, E: Write>(
     alloc: Global,
     plan: &mut R,
