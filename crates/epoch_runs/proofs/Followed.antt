@@ -26,29 +26,29 @@ begins (x ∷ xs) (y ∷ ys) same past =
     let first : x ≡ y = same zero x y refl refl in
     (rest.0, λ i. first i ∷ rest.1 i)
 
--- what a node learned in each epoch is a beginning of what is chosen there
-learned_begin : (members k : ℕ) (ws : List Written) (cs known : List (List (List ℕ))) → AreSchedules members ws cs → HasLearned members k ws known → AreBeginnings known cs
-learned_begin members k ws cs [] each has = tt
-learned_begin members k [] cs (x ∷ known) each has = absurd has
-learned_begin members k (w ∷ ws) [] (x ∷ known) each has = absurd each
-learned_begin members k (w ∷ ws) (c ∷ cs) (x ∷ known) each has = (
+-- what nodes learned in each epoch is a beginning of what is chosen there
+learned_begin : (members : ℕ) (ws : List Written) (cs known : List (List (List ℕ))) → AreSchedules members ws cs → HasLearned members ws known → AreBeginnings known cs
+learned_begin members ws cs [] each has = tt
+learned_begin members [] cs (x ∷ known) each has = absurd has
+learned_begin members (w ∷ ws) [] (x ∷ known) each has = absurd each
+learned_begin members (w ∷ ws) (c ∷ cs) (x ∷ known) each has = (
   begins x c (λ i v v' is also. each.0.chosen (i + 1) v v' (chosen_at i v is) (each.0.schedule.chosen i v' also)) (λ v is. each.0.schedule.whole v (chosen_at (length c) v is)),
-  learned_begin members k ws cs known each.1 has.1,
+  learned_begin members ws cs known each.1 has.1,
 )
   where
     chosen_at : (i : ℕ) (v : List ℕ) → slice_get x i ≡ Some v → IsChosen members w.history (i + 1) v
-    chosen_at i v is = let had = has.0 i v is in each.0.learned had.mid had.passes k had.view (i + 1) v had.there had.learned
+    chosen_at i v is = let had = has.0 i v is in each.0.learned had.mid had.passes had.node had.view (i + 1) v had.there had.learned
 
 pub epochs_follow : EpochsFollowOneLog
 epochs_follow members places ws reached =
     let s = schedules_of members ws reached in
-    let begin : (k : ℕ) (known : List (List (List ℕ))) → HasLearned members k ws known → IsBeginning (values_of places known) (values_of places s.0) =
-    λ k known has. values_begin places known s.0 (learned_begin members k ws s.0 known s.1 has) in (
+    let begin : (known : List (List (List ℕ))) → HasLearned members ws known → IsBeginning (values_of places known) (values_of places s.0) =
+    λ known has. values_begin places known s.0 (learned_begin members ws s.0 known s.1 has) in (
       s.0,
       record {
         each = s.1;
         learned = begin;
-        outputs = λ k known has i o is. outputs_begin (values_of places known) (values_of places s.0) (begin k known has) i o is;
+        outputs = λ known has i o is. outputs_begin (values_of places known) (values_of places s.0) (begin known has) i o is;
         covers = λ i j ch m start len start' len' bytes bytes' a b within within'.
             maps_are_disjoint (map command_of (values_of places s.0)) i j ch m start len start' len' bytes bytes' a b within within';
         owners = λ ch m id other a b. owners_are_one (map command_of (values_of places s.0)) ch m id other a b;

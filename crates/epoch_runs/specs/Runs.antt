@@ -28,23 +28,24 @@ abbrev pub AreOfRuns : ℕ → List Written → Type 0
 AreOfRuns members [] = Unit {0}
 AreOfRuns members (w ∷ ws) = IsOfRun members w × AreOfRuns members ws
 
--- at some time node k of a world had learned this value at place p
-pub record HadLearned (members k : ℕ) (w : Written) (p : ℕ) (v : List ℕ) : Type 0 where
+-- at some time a node of a world had learned this value at place p
+pub record HadLearned (members : ℕ) (w : Written) (p : ℕ) (v : List ℕ) : Type 0 where
+  pub node : ℕ
   pub mid : Written
   pub passes : Passes members [] mid w
   pub view : View
-  pub there : slice_get mid.nodes k ≡ Some (Running view)
+  pub there : slice_get mid.nodes node ≡ Some (Running view)
   pub learned : IsIn view.tally.learned (p, v)
 
--- these at place 1, 2 and so on, each at a time of its own
-abbrev pub HadLearnedAll : (members k : ℕ) → Written → List (List ℕ) → Type 0
-HadLearnedAll members k w values = (i : ℕ) (v : List ℕ) → slice_get values i ≡ Some v → HadLearned members k w (i + 1) v
+-- these at place 1, 2 and so on, each by a node of its own, at a time of its own
+abbrev pub HadLearnedAll : (members : ℕ) → Written → List (List ℕ) → Type 0
+HadLearnedAll members w values = (i : ℕ) (v : List ℕ) → slice_get values i ≡ Some v → HadLearned members w (i + 1) v
 
 -- the same in each of the first worlds
-abbrev pub HasLearned : (members k : ℕ) → List Written → List (List (List ℕ)) → Type 0
-HasLearned members k ws [] = Unit {0}
-HasLearned members k [] (c ∷ cs) = ⊥
-HasLearned members k (w ∷ ws) (c ∷ cs) = HadLearnedAll members k w c × HasLearned members k ws cs
+abbrev pub HasLearned : (members : ℕ) → List Written → List (List (List ℕ)) → Type 0
+HasLearned members ws [] = Unit {0}
+HasLearned members [] (c ∷ cs) = ⊥
+HasLearned members (w ∷ ws) (c ∷ cs) = HadLearnedAll members w c × HasLearned members ws cs
 
 -- the one list of chosen values of each world
 abbrev pub AreSchedules : ℕ → List Written → List (List (List ℕ)) → Type 0
@@ -61,10 +62,10 @@ CoversOnceOver outputs =
 -- worlds of epochs with so many places, whose chosen values are these, are one log
 pub record FollowOneLog (members places : ℕ) (ws : List Written) (cs : List (List (List ℕ))) : Type 0 where
   pub each : AreSchedules members ws cs
-  -- what a node learned, at any time of each epoch, is a beginning of the values of all
-  pub learned : (k : ℕ) (known : List (List (List ℕ))) → HasLearned members k ws known → IsBeginning (values_of places known) (values_of places cs)
+  -- what nodes learned, whichever and at any time of each epoch, is a beginning of the values of all
+  pub learned : (known : List (List (List ℕ))) → HasLearned members ws known → IsBeginning (values_of places known) (values_of places cs)
   -- and an output that they give is the one at its number of all
-  pub outputs : (k : ℕ) (known : List (List (List ℕ))) → HasLearned members k ws known
+  pub outputs : (known : List (List (List ℕ))) → HasLearned members ws known
       → (i : ℕ) (o : Output) → slice_get (outputs_over places known) i ≡ Some o → slice_get (outputs_over places cs) i ≡ Some o
   pub covers : CoversOnceOver (outputs_over places cs)
   pub owners : (ch m id other : ℕ) → Owner (values_of places cs) ch m id → Owner (values_of places cs) ch m other → id ≡ other

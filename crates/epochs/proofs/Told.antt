@@ -1,11 +1,14 @@
 -- What tables tell again was told before.
-use Rattle.std.proofs.Common.{◌≡◌, ◌⊎◌, ◌∙◌, ℕ, zero, suc, ◌+◌, ◌<◌, List, [], ◌∷◌, ◌++◌, length, map, filter, not, ltb, eqb, cond, Bool, Option}
-use Rattle.std.proofs.Common.{Some, None, true, false, refl, sym, ap, subst, inl, inr, arith, append_assoc, append-nil, unwrap_or, take, slice_get, get_or, add-one, ◌≤◌}
+use Rattle.std.proofs.Common.{◌≡◌, ◌⊎◌, ◌∙◌, ℕ, zero, suc, ◌+◌, ◌<◌, List, [], ◌∷◌, ◌++◌, length, map, filter, not}
+use Rattle.std.proofs.Common.{ltb, eqb, cond, Bool, Option}
+use Rattle.std.proofs.Common.{Some, None, true, false, refl, sym, ap, subst, inl, inr, arith, append_assoc}
+use Rattle.std.proofs.Common.{append-nil, unwrap_or, take, slice_get, get_or, add-one, ◌≤◌}
 use Rattle.std.specs.List.{Contains}
 use Rattle.std.proofs.lemmas.Bool.{eqb-true, eq-eqb}
 use Rattle.std.proofs.lemmas.Grind.{flat_map-append}
 use Rattle.std.proofs.lemmas.Option.{slice_get_cases}
-use Rattle.std.proofs.lemmas.List.Elements.{Contains-append_cases, Contains-append_left, Contains-push, Contains-push_cases}
+use Rattle.std.proofs.lemmas.List.Elements.{Contains-append_cases, Contains-append_left, Contains-push}
+use Rattle.std.proofs.lemmas.List.Elements.{Contains-push_cases}
 use Rattle.flow_state.specs.Firm.{AreFirm, Apart}
 use Rattle.flow_state.specs.declared.flow.Lease.{Lease}
 use Rattle.flow_state.specs.Rows.{Rows, Table, free_sid, is_table, lease_of, table_of}

@@ -6,6 +6,7 @@ use Rattle.std.proofs.lemmas.Option.{slice_get-get_or}
 use Rattle.acceptor.specs.Content.{no_content}
 use Rattle.epochs.specs.Epochs.{outputs_over}
 use Rattle.epoch_runs.specs.Runs.{EpochsFollowOneLog, FollowOneLog}
+use Rattle.flow_state.proofs.Callers.{at_contains, contains_at}
 use Rattle.grant_machine.specs.Laws.{InMap}
 use Rattle.grant_machine.specs.declared.output.Output.{Output}
 use Rattle.grant_machine.specs.declared.output.Output.TheVariants.{Map}
@@ -32,11 +33,14 @@ new_hosts = λ k. new_host
 new_at : (members k : ℕ) (s : Standing) → k < members → slice_get (replicate members s) k ≡ Some s
 new_at members k s within = slice_get-get_or (replicate members s) k s (omega (arith, within, length-replicate members s)) ∙ ap (λ (x : Standing). Some x) (get_or-replicate members k s s within)
 
-are_new : (members : ℕ) → AreAt members (opening_worlds members) new_hosts
-are_new members = record {
+are_new : (members places : ℕ) → AreAt members places (opening_worlds members) new_hosts [] 1
+are_new members places = record {
   came = λ e. record { script = []; report = []; run = refl };
   nodes = λ j within e. new_at members j (Running (started no_content)) within;
-  knows = λ j within. knows_push members j (opening_worlds members) [] [] (λ e c is. absurd (cc (is))) (knows_none members j (opening_worlds members));
+  knows = λ j within. knows_push members (opening_worlds members) [] [] (λ e c is. absurd (cc (is))) (knows_none members (opening_worlds members));
+  full = λ j within. tt;
+  low = λ j within. omega arith;
+  told = λ bytes has. absurd (let at = contains_at [] bytes has in cc (at.1));
 }
 
 -- outputs of one log with one number are one
@@ -58,7 +62,7 @@ one_map members places ws cs log x y (i, place, at) (j, place', at') ch m start 
 pub hosts_are_one : EpochsFollowOneLog → HostsAreOneLog
 hosts_are_one follow members places turns lived =
     let done : AreTurned members places turns (opening_worlds members) 1 =
-    all_turned members places turns (opening_worlds members) new_hosts 1 lived.named lived.lived lived.come (are_new members) (λ k within. omega arith) in
+    all_turned members places turns (opening_worlds members) new_hosts [] 1 lived.named lived.lived lived.come lived.told (are_new members places) in
     let n : ℕ = 1 + length turns in
     let ws : List Written = worlds_of n 1 done.worlds in
     let log = follow members places ws (worlds_are members n 1 done.worlds (λ e. let ran = done.each e in record { script = ran.script; report = ran.report; run = ran.goes })) in
@@ -66,7 +70,7 @@ hosts_are_one follow members places turns lived =
     λ x has.
     let is = done.printed x has in
     let out = is.output in
-    (out.0, out.1, log.1.outputs is.host is.values (worlds_know members is.host n 1 done.worlds is.values is.few is.knows) out.0 x.output out.2) in (
+    (out.0, out.1, log.1.outputs is.values (worlds_know members n 1 done.worlds is.values is.few is.knows) out.0 x.output out.2) in (
       ws,
       log.0,
       record {
@@ -80,5 +84,14 @@ hosts_are_one follow members places turns lived =
         one = λ x y here there same. one_output places log.0 x y (printed x here) (printed y there) same;
         maps = λ x y here there ch m start len start' len' bytes bytes' is is' within within'.
             one_map members places ws log.0 log.1 x y (printed x here) (printed y there) ch m start len start' len' bytes bytes' is is' within within';
+        states = λ bytes has.
+            let is = done.states bytes has in
+            let few = is.few in
+            record { state = is.state; beginning = log.1.learned is.state.passed (worlds_know members n 1 done.worlds is.state.passed (omega (arith, few)) is.knows) };
+        again = λ o has.
+            let is = done.again o has in
+            let has_it = worlds_know members n 1 done.worlds is.values is.few is.knows in
+            let at = contains_at (outputs_over places is.values) o is.output in
+            at_contains (outputs_over places log.0) at.0 o (log.1.outputs is.values has_it at.0 o at.1);
       },
     )

@@ -2,12 +2,13 @@
 use Rattle.std.specs.Prelude.{◌≡◌, ℕ, ◌+◌, ◌<◌, ◌≤◌, true, List, [], ◌∷◌, ◌++◌, length, All, Contains, Some, slice_get}
 use Rattle.acceptor.specs.Content.{no_content}
 use Rattle.ballots.specs.declared.letters.Letter.{Letter}
-use Rattle.epochs.specs.Epochs.{outputs_over}
+use Rattle.epochs.specs.Epochs.{IsBeginning, outputs_over, values_of}
 use Rattle.epoch_runs.specs.Runs.{FollowOneLog}
 use Rattle.grant_machine.specs.Laws.{InMap}
+use Rattle.grant_machine.specs.declared.output.Output.{Output}
 use Rattle.grant_machine.specs.declared.output.Output.TheVariants.{Map}
 use Rattle.hosts.specs.Views.{HostView, opening}
-use Rattle.host_service.specs.Serving.{RunsAs}
+use Rattle.host_service.specs.Serving.{IsToldState, LivesAs}
 use Rattle.host_service.specs.declared.reply.HostReply.{HostReply}
 use Rattle.map_release.specs.declared.numbered.Numbered.{Numbered}
 use Rattle.network_script.specs.Next.{Run}
@@ -20,8 +21,8 @@ use Rattle.seats.specs.declared.acted.Acted.{Acted}
 use Rattle.seats.specs.declared.answer.Answer.{Answer}
 use Rattle.world_events.specs.declared.event.Event.{Event}
 use Rattle.world_events.specs.declared.event.Event.TheVariants as event
-use Rattle.host_lives.specs.Turns.{AllCome, DoesIn, HostTurn, is_done_in, letters_in, letters_sent, outputs_printed}
-use Rattle.host_lives.specs.Turns.{turns_in, turns_of}
+use Rattle.host_lives.specs.Turns.{AllCome, AllTold, DoesIn, HostTurn, is_done_in, letters_in, letters_sent}
+use Rattle.host_lives.specs.Turns.{outputs_printed, states_told, told_again, turns_in, turns_of}
 
 -- a host as it begins, over records that hold nothing
 abbrev pub new_host : HostView
@@ -33,13 +34,15 @@ AnyFault fault = Unit {0}
 
 -- host me of so many, with so many places in an epoch, replied so to these lines, from its beginning on
 abbrev pub IsLife : (members me places : ℕ) → List (List ℕ × HostReply) → Type 0
-IsLife members me places turns = (last : HostView) × RunsAs AnyFault members me places new_host turns last
+IsLife members me places turns = LivesAs AnyFault members me places new_host turns
 
--- each member has lived so, in an order in which each letter of an epoch was sent in that epoch before it came
+-- each member has lived so, in an order in which each letter of an epoch was sent in that epoch before it came, and each
+-- state was told before a host went to it
 pub record HostsHaveLived (members places : ℕ) (turns : List HostTurn) : Type 0 where
   pub named : All (λ t. t.host < members) turns
   pub lived : (k : ℕ) → k < members → IsLife members k places (turns_of k turns)
   pub come : AllCome turns
+  pub told : AllTold turns
 
 -- what was asked of node k is this event, where these letters were sent before: a letter that comes is one of them
 abbrev pub IsEvent : List Letter → ℕ → Request → Event → Type 0
@@ -73,6 +76,11 @@ pub record IsRunOf (members e : ℕ) (turns : List HostTurn) (w : Written) : Typ
 abbrev pub IsOutputOf : ℕ → List (List (List ℕ)) → Numbered → Type 0
 IsOutputOf places cs x = (i : ℕ) × (x.place ≡ i + 1) × (slice_get (outputs_over places cs) i ≡ Some x.output)
 
+-- bytes are the state behind full epochs, which are a beginning of these values
+pub record IsStateOfLog (members places : ℕ) (cs : List (List (List ℕ))) (bytes : List ℕ) : Type 0 where
+  pub state : IsToldState members places bytes
+  pub beginning : IsBeginning (values_of places state.passed) (values_of places cs)
+
 -- what hosts did is a run in each epoch, and these runs, whose chosen values are these, are one log
 pub record AreOneLog (members places : ℕ) (turns : List HostTurn) (ws : List Written) (cs : List (List (List ℕ))) : Type 0 where
   -- in epochs 1, 2 and so on
@@ -88,6 +96,9 @@ pub record AreOneLog (members places : ℕ) (turns : List HostTurn) (ws : List W
   pub maps : (x y : Numbered) → Contains (outputs_printed turns) x → Contains (outputs_printed turns) y
       → (ch m start len start' len' : ℕ) (bytes bytes' : List ℕ) → x.output ≡ Map ch start len bytes → y.output ≡ Map ch start' len' bytes'
       → InMap start len m → InMap start' len' m → x.place ≡ y.place
+  -- each state that they tell is of this log, and so is each output that they tell again
+  pub states : (bytes : List ℕ) → Contains (states_told turns) bytes → IsStateOfLog members places cs bytes
+  pub again : (o : Output) → Contains (told_again turns) o → Contains (outputs_over places cs) o
 
 -- hosts that have lived are one log
 abbrev pub HostsAreOneLog : Type 0

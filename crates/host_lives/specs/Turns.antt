@@ -1,14 +1,17 @@
 -- Lines that hosts read, with their replies, in one order.
-use Rattle.std.specs.Prelude.{◌≡◌, ℕ, ◌==◌, Bool, false, if◌then◌else◌, List, [], map, filter, take, Some, slice_get}
+use Rattle.std.specs.Prelude.{◌≡◌, ℕ, ◌==◌, Bool, false, if◌then◌else◌, List, [], ◌∷◌}
+use Rattle.std.specs.Prelude.{map, filter, take, Some, slice_get}
 use Rattle.std.specs.Prelude.{Contains}
 use Rattle.std.specs.List.{flat_map}
 use Rattle.ballots.specs.declared.letters.Letter.{Letter}
+use Rattle.grant_machine.specs.declared.output.Output.{Output}
 use Rattle.hosts.specs.declared.acted.HostActed.TheVariants.{Of}
 use Rattle.host_service.specs.Numbers.{IsNumbered}
 use Rattle.host_service.specs.Replying.{IsAskedOfNode}
+use Rattle.host_service.specs.Serving.{Gives}
 use Rattle.host_service.specs.declared.number.EpochNumber.{EpochNumber}
 use Rattle.host_service.specs.declared.reply.HostReply.{HostReply}
-use Rattle.host_service.specs.declared.reply.HostReply.TheVariants.{InEpoch, Released, AsNode}
+use Rattle.host_service.specs.declared.reply.HostReply.TheVariants.{InEpoch, Released, State, Joined, Again, AsNode}
 use Rattle.map_release.specs.declared.numbered.Numbered.{Numbered}
 use Rattle.node_lines.specs.declared.request.Request.{Request}
 use Rattle.node_lines.specs.declared.request.Request.TheVariants as request
@@ -59,6 +62,22 @@ outputs_in other = []
 abbrev pub outputs_printed : List HostTurn → List Numbered
 outputs_printed turns = flat_map (λ t. outputs_in t.reply) turns
 
+-- the states that a reply tells, and all that were told, in order
+abbrev pub states_in : HostReply → List (List ℕ)
+states_in (State bytes) = bytes ∷ []
+states_in other = []
+
+abbrev pub states_told : List HostTurn → List (List ℕ)
+states_told turns = flat_map (λ t. states_in t.reply) turns
+
+-- the outputs that a reply tells again, and all that were told so, in order
+abbrev pub again_in : HostReply → List Output
+again_in (Again outputs) = outputs.items
+again_in other = []
+
+abbrev pub told_again : List HostTurn → List Output
+told_again turns = flat_map (λ t. again_in t.reply) turns
+
 -- a line asked this of the node of epoch e, and this came of it
 pub record DoesIn (t : HostTurn) (e : ℕ) (asked : Request) (acted : Acted) : Type 0 where
   pub number : EpochNumber
@@ -73,3 +92,9 @@ abbrev pub AllCome : List HostTurn → Type 0
 AllCome turns =
     (i : ℕ) (t : HostTurn) → slice_get turns i ≡ Some t → (e : ℕ) (l : Letter) (acted : Acted) → DoesIn t e (request.Letter l) acted
     → (l.to ≡ t.host) × Contains (letters_sent e (take i turns)) l
+
+-- each state to which a host went was told before, by a host
+abbrev pub AllTold : List HostTurn → Type 0
+AllTold turns =
+    (i : ℕ) (t : HostTurn) → slice_get turns i ≡ Some t → (bytes : List ℕ) (epoch : ℕ) → Gives t.line bytes → t.reply ≡ Joined epoch
+    → Contains (states_told (take i turns)) bytes

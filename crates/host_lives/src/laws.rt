@@ -8,9 +8,11 @@ use hosts::Opens;
 use node_service::{Lines, Outbox};
 
 /// Let processes read lines and reply as hosts with as many places in an epoch, each from its beginning on, in an order
-/// in which each letter of an epoch was sent in that epoch before it came. Then what they did in each epoch is a run of
-/// fresh nodes, and these runs are one log. Each output that a host printed is the one at its number of it: with one
-/// number goes one output, and at most one MAP that was printed covers a minislot.
+/// in which each letter of an epoch was sent in that epoch before it came, and each state to which a host went was told
+/// before by one of them. Then what they did in each epoch is a run of fresh nodes, and these runs are one log. Each
+/// output that a host printed is the one at its number of it: with one number goes one output, and at most one MAP that
+/// was printed covers a minislot. Each state that was told is one of this log, and so is each output that was told
+/// again.
 pub fn hosts_are_one_log()
     ensures { HostsAreOneLog }
 {

@@ -1,11 +1,13 @@
 -- How a host's run of lines ends.
-use Rattle.std.proofs.Common.{◌≡◌, ◌∙◌, inl, inr, ℕ, List, [], ◌++◌, refl, ap, subst, append_assoc}
+use Rattle.std.proofs.Common.{◌≡◌, ◌∙◌, inl, inr, ℕ, List, [], ◌++◌, All, refl, ap, subst, append_assoc}
 use Rattle.std.specs.Io.KnownBytes.{Consumes}
 use Rattle.std.proofs.lemmas.List.{append-nil}
 use Rattle.hosts.specs.Hosts.{AreMembers, StandsAs, member_of, places_of}
 use Rattle.hosts.specs.Views.{HostView}
+use Rattle.hosts.specs.declared.host.Host.{Host}
 use Rattle.hosts.specs.declared.opens.Opens.{Ghosts}
 use Rattle.node.specs.declared.node.Node.{Ghosts as Nodes}
+use Rattle.node_lines.specs.Input.{IsLine}
 use Rattle.node_service.specs.Batched.{EndsBatchedBy, ServesBatched, lines_in}
 use Rattle.node_service.specs.declared.batches.BatchedEnd.{BatchedEnd}
 use Rattle.node_service.specs.declared.batches.BatchedEnd.TheVariants as ends
@@ -16,18 +18,26 @@ use Rattle.host_service.specs.Serving.{EndsAs, NeverLie, ServesAs}
 use Rattle.host_service.specs.Texts.{host_text}
 use Rattle.host_service.specs.declared.reply.HostReply.{HostReply}
 use Rattle.host_service.specs.declared.service.HostServer.{HostServer}
-use Rattle.host_service.proofs.Runs.{IsThere, Runs, batched_runs, runs_on, unkept_runs}
+use Rattle.host_service.proofs.Runs.{IsThere, Runs, batched_runs, batched_whole, both_whole, lives_as, runs_on}
+use Rattle.host_service.proofs.Runs.{unkept_runs, unkept_whole}
 
 abbrev Turns : Type 0
 Turns = List (List ℕ × HostReply)
 
 -- all lines that were done, from where the host stood on
+record Done {O N : Type 0} {g : Ghosts O N} {h : Nodes N} (host : Host O N g h) (members me places : ℕ) (v : HostView) (turns : Turns) : Type 0 where
+  runs : Runs host members me places v turns
+  whole : All (λ turn. IsLine turn.0) turns
+
 all_runs : {O N I Q : Type 0} {g : Ghosts O N} {h : Nodes N} (input : Inputs I) (output : Outputs Q) (seen unseen waiting : Turns) (a : HostServer O N g h) (i : I) (o : Q) (b : HostServer O N g h) (j : I) (q : Q) (members me places : ℕ) (v : HostView)
-    → ServesBatched host_keeper host_text input output seen unseen waiting a i o b j q → NeverLie h → IsThere (host_of a) members me places v → Runs (host_of b) members me places v ((seen ++ unseen) ++ waiting)
-all_runs input output seen unseen waiting a i o b j q members me places v serves never there =
-    let first = batched_runs input (seen ++ unseen) a i serves.mid serves.from members me places v serves.turned never there in
-    let later = unkept_runs input waiting serves.mid serves.from b j members me places first.last serves.waits never first.there in
-    runs_on (host_of b) members me places v first.last (seen ++ unseen) waiting first.runs first.whole later
+    → ServesBatched host_keeper host_text input output seen unseen waiting a i o b j q → NeverLie h → IsThere (host_of a) members me places v → Done (host_of b) members me places v ((seen ++ unseen) ++ waiting)
+all_runs {O} {N} {I} {Q} {g} {h} input output seen unseen waiting a i o b j q members me places v serves never there = record {
+  runs = runs_on (IsThere (host_of serves.mid) members me places) (IsThere (host_of b) members me places) g.may_fail members me places v (seen ++ unseen) waiting
+      (batched_runs input (seen ++ unseen) a i serves.mid serves.from members me places v serves.turned never there)
+      (λ u at. unkept_runs input waiting serves.mid serves.from b j members me places u serves.waits never at);
+  whole = both_whole (seen ++ unseen) waiting (batched_whole input (seen ++ unseen) a i serves.mid serves.from serves.turned)
+      (unkept_whole input waiting serves.mid serves.from b j serves.waits);
+}
 
 -- where none wait
 alone : (seen : Turns) → (seen ++ []) ++ [] ≡ seen
@@ -35,17 +45,21 @@ alone seen = append-nil (seen ++ []) ∙ append-nil seen
 
 seen_runs : {O N I Q : Type 0} {g : Ghosts O N} {h : Nodes N} (input : Inputs I) (output : Outputs Q) (seen : Turns) (a : HostServer O N g h) (i : I) (o : Q) (b : HostServer O N g h) (j : I) (q : Q) (members me places : ℕ) (v : HostView)
     → ServesBatched host_keeper host_text input output seen [] [] a i o b j q → NeverLie h → IsThere (host_of a) members me places v
-    → Runs (host_of b) members me places v seen × Consumes (input.bytes_left i) (input.bytes_left j) (lines_in seen)
+    → Done (host_of b) members me places v seen × Consumes (input.bytes_left i) (input.bytes_left j) (lines_in seen)
 seen_runs input output seen a i o b j q members me places v serves never there = (
-  subst (λ (turns : Turns). Runs (host_of b) members me places v turns) (alone seen) (all_runs input output seen [] [] a i o b j q members me places v serves never there),
+  subst (λ (turns : Turns). Done (host_of b) members me places v turns) (alone seen) (all_runs input output seen [] [] a i o b j q members me places v serves never there),
   subst (λ (turns : Turns). Consumes (input.bytes_left i) (input.bytes_left j) (lines_in turns)) (alone seen) serves.read,
 )
 
 -- the run of a host, with how it ends
 ended : {O N I Q : Type 0} {g : Ghosts O N} {h : Nodes N} (input : Inputs I) (output : Outputs Q) (end : BatchedEnd) (b : HostServer O N g h) (i : I) (o : Q) (i' : I) (o' : Q) (members me places : ℕ) (v : HostView) (turns : Turns)
-    → Runs (host_of b) members me places v turns → EndsAs input output end turns i o i' o' → ServesAs input output g.may_fail members me places v end i o i' o'
-ended input output end b i o i' o' members me places v turns runs how =
-    record { turns = turns; last = runs.last; whole = runs.whole; runs = runs.runs; ends = how }
+    → Done (host_of b) members me places v turns → EndsAs input output end turns i o i' o' → ServesAs input output g.may_fail members me places v end i o i' o'
+ended {O} {N} {I} {Q} {g} {h} input output end b i o i' o' members me places v turns done how = record {
+  turns = turns;
+  whole = done.whole;
+  lives = lives_as (IsThere (host_of b) members me places) g.may_fail members me places v turns done.runs;
+  ends = how;
+}
 
 pub serves_as : {O N I Q : Type 0} {g : Ghosts O N} {h : Nodes N} (input : Inputs I) (output : Outputs Q) (end : BatchedEnd) (a : HostServer O N g h) (i : I) (o : Q) (a' : HostServer O N g h) (i' : I) (o' : Q) (members me places : ℕ) (v : HostView)
     → EndsBatchedBy host_keeper host_text input output end a i o a' i' o' → NeverLie h → IsThere (host_of a) members me places v → ServesAs input output g.may_fail members me places v end i o i' o'

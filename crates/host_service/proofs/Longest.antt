@@ -19,9 +19,11 @@ use Rattle.letter_bytes.specs.Longest.{longest_letter}
 use Rattle.letter_bytes.specs.Spelling.{fields_spelling, number, spelling, vote_spelling, votes_reported}
 use Rattle.letter_bytes.proofs.Callers.{letter-at_most}
 use Rattle.node_lines.specs.Lines.{letter_word, longest_line}
+use Rattle.host_service.specs.Asking.{join_word}
 use Rattle.host_service.specs.Longest.{IsPromiseWithin}
 use Rattle.host_service.specs.Numbers.{number_text}
 use Rattle.host_service.specs.declared.number.EpochNumber.{EpochNumber}
+use Rattle.host_service.specs.declared.reply.TheConstants.{LONGEST_STATE}
 
 abbrev Rows : Type 0
 Rows = List (ℕ × Cast)
@@ -94,3 +96,7 @@ fits_behind n l epoch places within =
       number_length n epoch places,
       room n.places l (omega (arith, places)) within,
     )
+
+-- the line by which a host joins has two digits for each byte of the state
+pub state_fits : (bytes : List ℕ) → length bytes ≤ LONGEST_STATE → length (join_word ++ encode_lower bytes) ≤ longest_line
+state_fits bytes few = omega (arith, few, length-append join_word (encode_lower bytes), length-encode_with lower_digits bytes)

@@ -1,13 +1,21 @@
 -- A host that replies to lines, seen by where it stands.
-use Rattle.std.proofs.Common.{◌≡◌, ◌∙◌, inl, inr, ℕ, zero, suc, ◌+◌, ◌<◌, List, [], ◌∷◌, ◌++◌, All, Result}
-use Rattle.std.proofs.Common.{Ok, Err, refl, sym, ap, subst}
+use Rattle.std.proofs.Common.{◌≡◌, ◌⊎◌, ◌∙◌, inl, inr, ℕ, zero, suc, ◌+◌, ◌<◌, List, [], ◌∷◌, ◌++◌, All, Result}
+use Rattle.std.proofs.Common.{Ok, Err, arith, refl, sym, ap, subst}
+use Rattle.std.specs.Prelude.{IfOk, Vec}
+use Rattle.std.specs.declared.alloc.AllocError.{AllocError}
+use Rattle.std.specs.declared.alloc.Global.{Global}
 use Rattle.std.proofs.lemmas.List.Elements.{All-cons, All-head, All-nil, All-tail}
 use Rattle.hosts.proofs.Callers.{is_asked_near, is_gone}
 use Rattle.hosts.specs.Acting.{IsRefusedSo}
-use Rattle.hosts.specs.Hosts.{AreMembers, IsHonest, SameHost, StandsAs, member_of, places_of}
-use Rattle.hosts.specs.Views.{HostView, MovesIn}
+use Rattle.grant_machine.specs.declared.output.Output.{Output}
+use Rattle.hosts.specs.Hosts.{AreMembers, IsHonest, SameHost, StandsAs, member_of, number_of, places_of}
+use Rattle.hosts.specs.Joining.{Joins}
+use Rattle.hosts.specs.States.{IsStateOf}
+use Rattle.hosts.specs.Views.{HostView, MovesIn, TellsAgain, joined as joined_at, number as number_at}
 use Rattle.hosts.specs.declared.acted.HostActed.{HostActed}
 use Rattle.hosts.specs.declared.acted.HostActed.TheVariants.{Of, Ended, Ahead, Gone, OtherPlaces}
+use Rattle.hosts.specs.declared.fault.JoinFault.{JoinFault}
+use Rattle.hosts.specs.declared.fault.JoinFault.TheVariants as cant_join
 use Rattle.hosts.specs.declared.host.Host.{Host}
 use Rattle.hosts.specs.declared.opens.Opens.{Ghosts}
 use Rattle.node.specs.declared.node.Node.{Ghosts as Nodes}
@@ -17,20 +25,28 @@ use Rattle.node_lines.specs.declared.request.Request.{Request}
 use Rattle.node_service.specs.Batched.{BatchedTurns, Commits, IsCameOf, LineTurn, UnkeptTurns}
 use Rattle.node_service.specs.Seated.{asked_of}
 use Rattle.node_service.specs.declared.lines.Lines.{Ghosts as Inputs}
+use Rattle.proposer.specs.declared.fault.NodeFault.{NodeFault}
+use Rattle.proposer.specs.declared.fault.NodeFault.TheVariants.{OutOfMemory}
 use Rattle.seats.specs.Moves.Ask.{Crash}
 use Rattle.seats.specs.Occupant.{node_of}
+use Rattle.host_service.specs.Asking.{AsksHost}
 use Rattle.host_service.specs.Numbers.{HasNoNumber, IsNumbered}
-use Rattle.host_service.specs.Replying.{IsAskedOfNode, RepliesAlone, RepliesIn, RepliesTo, host_keeper, host_of}
-use Rattle.host_service.specs.Serving.{IsBehind, NeverLie, RepliesAs, RunsAs}
+use Rattle.host_service.specs.Replying.{DoesAsked, IsAskedOfNode, JoinsSo, RepliesAlone, RepliesIn, RepliesTo}
+use Rattle.host_service.specs.Replying.{again_reply, fault_reply, host_keeper, host_of, join_reply, state_reply}
+use Rattle.host_service.specs.Replying.{state_told}
+use Rattle.host_service.specs.Serving.{Gives, IsBehind, IsToldAt, LivesAs, NeverLie, RepliesAs}
+use Rattle.host_service.specs.declared.asked.HostRequest.{HostRequest}
+use Rattle.host_service.specs.declared.asked.HostRequest.TheVariants as host_asked
 use Rattle.host_service.specs.declared.number.EpochNumber.{EpochNumber}
 use Rattle.host_service.specs.declared.reply.HostReply.{HostReply}
-use Rattle.host_service.specs.declared.reply.HostReply.TheVariants.{There, InEpoch, Released, AsNode}
+use Rattle.host_service.specs.declared.reply.HostReply.TheVariants.{There, InEpoch, Released, State, StateTooLong}
+use Rattle.host_service.specs.declared.reply.HostReply.TheVariants.{Joined, NoState, Again, AsNode}
 use Rattle.host_service.specs.declared.service.HostServer.{HostServer}
 
 -- the same host, with all that is said of where it stands
-record Goes {O N : Type 0} {g : Ghosts O N} {h : Nodes N} (old : Host O N g h) (line : List ℕ) (replied : HostReply) (new : Host O N g h) (v : HostView) : Type 0 where
+record Goes {O N : Type 0} {g : Ghosts O N} {h : Nodes N} (old : Host O N g h) (line : List ℕ) (replied : HostReply) (new : Host O N g h) (v : HostView) (past : IsToldAt (member_of old).1 (places_of old) line replied) : Type 0 where
   view : HostView
-  replies : RepliesAs g.may_fail (member_of old).1 (member_of old).0 (places_of old) v line replied view
+  replies : RepliesAs g.may_fail (member_of old).1 (member_of old).0 (places_of old) v line replied past view
   stands : StandsAs new view
 
 honest_host : {O N : Type 0} {g : Ghosts O N} {h : Nodes N} → NeverLie h → (host : Host O N g h) → IsHonest host
@@ -63,10 +79,10 @@ asked_behind rest OtherPlaces asked asks = tt
 stays : {O N : Type 0} {g : Ghosts O N} {h : Nodes N} (old new : Host O N g h) (v : HostView) → new ≡ old → StandsAs old v → StandsAs new v
 stays {O} {N} {g} {h} old new v same stands = subst (λ (x : Host O N g h). StandsAs x v) (sym same) stands
 
-goes_in : {O N : Type 0} {g : Ghosts O N} {h : Nodes N} (old : Host O N g h) (line : List ℕ) (n : EpochNumber) (rest : List ℕ) (replied : HostReply) (new : Host O N g h) (v : HostView)
-    → IsNumbered line n rest → RepliesIn old n rest replied new → NeverLie h → AreMembers old → StandsAs old v → Goes old line replied new v
-goes_in old line n rest (There id count many) new v numbered replies never members stands = absurd replies
-goes_in old line n rest (InEpoch m acted) new v numbered (is, inl (refused, same)) never members stands = record {
+goes_in : {O N : Type 0} {g : Ghosts O N} {h : Nodes N} (old : Host O N g h) (line : List ℕ) (n : EpochNumber) (rest : List ℕ) (replied : HostReply) (new : Host O N g h) (v : HostView) (past : IsToldAt (member_of old).1 (places_of old) line replied)
+    → IsNumbered line n rest → RepliesIn old n rest replied new → NeverLie h → AreMembers old → StandsAs old v → Goes old line replied new v past
+goes_in old line n rest (There id count many) new v past numbered replies never members stands = absurd replies
+goes_in old line n rest (InEpoch m acted) new v past numbered (is, inl (refused, same)) never members stands = record {
   view = v;
   replies = inl (record {
     number = n;
@@ -80,7 +96,7 @@ goes_in old line n rest (InEpoch m acted) new v numbered (is, inl (refused, same
   });
   stands = stays old new v same stands;
 }
-goes_in old line n rest (InEpoch m acted) new v numbered (is, inr done) never members stands =
+goes_in old line n rest (InEpoch m acted) new v past numbered (is, inr done) never members stands =
     let moved = done.acts.moves (honest_host never new) members v stands in
     record {
       view = moved.0;
@@ -96,34 +112,95 @@ goes_in old line n rest (InEpoch m acted) new v numbered (is, inr done) never me
       });
       stands = moved.2;
     }
-goes_in old line n rest (Released told next place) new v numbered replies never members stands = absurd replies
-goes_in old line n rest (AsNode told) new v numbered (near, (why, is, nothing, same)) never members stands = record {
+goes_in old line n rest (Released told next place) new v past numbered replies never members stands = absurd replies
+goes_in old line n rest (State bytes) new v past numbered replies never members stands = absurd replies
+goes_in old line n rest StateTooLong new v past numbered replies never members stands = absurd replies
+goes_in old line n rest (Joined epoch) new v past numbered replies never members stands = absurd replies
+goes_in old line n rest NoState new v past numbered replies never members stands = absurd replies
+goes_in old line n rest (Again outputs) new v past numbered replies never members stands = absurd replies
+goes_in old line n rest (AsNode told) new v past numbered (near, (why, is, nothing, same)) never members stands = record {
   view = v;
-  replies = inr (inr (record {
+  replies = inr (inr (inr (record {
     why = why;
     unasked = inr (inl (n, rest, numbered, near.places, is_asked_near old v stands n.epoch n.places near, nothing));
     told = ap AsNode is;
     same = refl;
-  }));
+  })));
   stands = stays old new v same stands;
 }
 
-goes_alone : {O N : Type 0} {g : Ghosts O N} {h : Nodes N} (old : Host O N g h) (line : List ℕ) (replied : HostReply) (new : Host O N g h) (v : HostView)
-    → HasNoNumber line → RepliesAlone old line replied new → NeverLie h → StandsAs old v → Goes old line replied new v
-goes_alone old line replied new v none (inl (now, given, asks, releases, told)) never stands =
+-- what is told of a state, or of outputs
+state_as : (members me places : ℕ) (v : HostView) (state : Result (Vec ℕ Global) AllocError) (replied : HostReply) → IfOk state (λ bytes. IsStateOf me members places v.passed bytes.items)
+    → replied ≡ state_reply state → ((bytes : List ℕ) × IsStateOf me members places v.passed bytes × (replied ≡ state_told bytes)) ⊎ (replied ≡ fault_reply OutOfMemory)
+state_as members me places v (Ok bytes) replied is told = inl (bytes.items, is, told)
+state_as members me places v (Err lack) replied is told = inr told
+
+again_as : (places : ℕ) (v : HostView) (outputs : Result (Vec Output Global) AllocError) (replied : HostReply) → IfOk outputs (λ outputs. TellsAgain places v outputs.items)
+    → replied ≡ again_reply outputs → ((all : Vec Output Global) × TellsAgain places v all.items × (replied ≡ Again all)) ⊎ (replied ≡ fault_reply OutOfMemory)
+again_as places v (Ok outputs) replied is told = inl (outputs, is, told)
+again_as places v (Err lack) replied is told = inr told
+
+-- the epoch of a state to which it went is above its own one
+above : {O N : Type 0} {g : Ghosts O N} {h : Nodes N} (old new : Host O N g h) (bytes : List ℕ) (v : HostView) → Joins old bytes new → StandsAs old v → number_at v < number_of new
+above old new bytes v (head, rows, state, can, begins) stands = omega (arith, can.above, begins.enters.number, stands.epoch)
+
+goes_to : {O N : Type 0} {g : Ghosts O N} {h : Nodes N} (old : Host O N g h) (line bytes : List ℕ) (joined : Result (Unit {0}) JoinFault) (replied : HostReply) (new : Host O N g h) (v : HostView) (past : IsToldAt (member_of old).1 (places_of old) line replied)
+    → Gives line bytes → JoinsSo old bytes joined new → replied ≡ join_reply (number_of new) joined → NeverLie h → StandsAs old v → Goes old line replied new v past
+goes_to old line bytes (Ok done) replied new v past gives joins told never stands =
+    let state = past bytes (number_of new) gives told in
+    let stood : StandsAs new (joined_at (places_of old) v state.passed) = joins.moves (honest_host never new) v stands state.teller state.passed state.full state.is in
+    record {
+      view = joined_at (places_of old) v state.passed;
+      replies = inr (inr (inl (inr (inr (inl (record {
+        bytes = bytes;
+        epoch = number_of new;
+        gives = gives;
+        told = told;
+        above = above old new bytes v joins.joins stands;
+        is = stood.epoch;
+        moves = refl;
+      }))))));
+      stands = stood;
+    }
+goes_to old line bytes (Err cant_join.NoState) replied new v past gives joins told never stands = record {
+  view = v;
+  replies = inr (inr (inl (inr (inr (inr (record { bytes = bytes; gives = gives; told = inl told; same = refl }))))));
+  stands = joins.moves (honest_host never new) v stands;
+}
+goes_to old line bytes (Err (cant_join.Node why)) replied new v past gives joins told never stands = record {
+  view = v;
+  replies = inr (inr (inl (inr (inr (inr (record { bytes = bytes; gives = gives; told = inr (why, joins.stays.1, told); same = refl }))))));
+  stands = joins.moves (honest_host never new) v stands;
+}
+
+goes_asked : {O N : Type 0} {g : Ghosts O N} {h : Nodes N} (old : Host O N g h) (line : List ℕ) (asked : HostRequest) (replied : HostReply) (new : Host O N g h) (v : HostView) (past : IsToldAt (member_of old).1 (places_of old) line replied)
+    → HasNoNumber line → AsksHost line asked → DoesAsked old asked replied new → NeverLie h → StandsAs old v → Goes old line replied new v past
+goes_asked old line (host_asked.Release now) replied new v past none asks (given, releases, told) never stands =
     let moved = releases.moves (honest_host never new) v stands in
     record { view = moved.0; replies = inr (inl (record { now = now; given = given; asks = asks; moves = moved.1; told = told })); stands = moved.2 }
-goes_alone old line replied new v none (inr (why, nothing, told, same)) never stands =
-    record { view = v; replies = inr (inr (record { why = why; unasked = inr (inr (none, nothing)); told = told; same = refl })); stands = stays old new v same stands }
+goes_asked old line host_asked.State replied new v past none asks (state, states, told, same) never stands =
+    let said = state_as (member_of old).1 (member_of old).0 (places_of old) v state replied (states.is v stands) told in
+    record { view = v; replies = inr (inr (inl (inl (record { bare = none; asks = asks; told = said; same = refl })))); stands = stays old new v same stands }
+goes_asked old line (host_asked.Join bytes) replied new v past none asks (joined, joins, told) never stands =
+    goes_to old line bytes joined replied new v past (record { bare = none; asks = asks }) joins told never stands
+goes_asked old line host_asked.Again replied new v past none asks (outputs, again, told, same) never stands =
+    let said = again_as (places_of old) v outputs replied (again.is v stands) told in
+    record { view = v; replies = inr (inr (inl (inr (inl (record { bare = none; asks = asks; told = said; same = refl }))))); stands = stays old new v same stands }
 
-goes : {O N : Type 0} {g : Ghosts O N} {h : Nodes N} (old : Host O N g h) (came : Result (List ℕ) LineFault) (line : List ℕ) (replied : HostReply) (new : Host O N g h) (v : HostView)
-    → IsCameOf line came → RepliesTo old came replied new → NeverLie h → AreMembers old → StandsAs old v → Goes old line replied new v
-goes old (Ok kept) line replied new v is (inl (n, rest, numbered, replies)) never members stands =
-    goes_in old line n rest replied new v (subst (λ x. IsNumbered x n rest) is.0 numbered) replies never members stands
-goes old (Ok kept) line replied new v is (inr (none, replies)) never members stands =
-    goes_alone old line replied new v (subst (λ x. HasNoNumber x) is.0 none) (subst (λ x. RepliesAlone old x replied new) is.0 replies) never stands
-goes old (Err why) line replied new v is (told, same) never members stands =
-    record { view = v; replies = inr (inr (record { why = why; unasked = inl is; told = told; same = refl })); stands = stays old new v same stands }
+goes_alone : {O N : Type 0} {g : Ghosts O N} {h : Nodes N} (old : Host O N g h) (line : List ℕ) (replied : HostReply) (new : Host O N g h) (v : HostView) (past : IsToldAt (member_of old).1 (places_of old) line replied)
+    → HasNoNumber line → RepliesAlone old line replied new → NeverLie h → StandsAs old v → Goes old line replied new v past
+goes_alone old line replied new v past none (inl (asked, asks, does)) never stands = goes_asked old line asked replied new v past none asks does never stands
+goes_alone old line replied new v past none (inr (why, nothing, told, same)) never stands =
+    record { view = v; replies = inr (inr (inr (record { why = why; unasked = inr (inr (none, nothing)); told = told; same = refl }))); stands = stays old new v same stands }
+
+goes : {O N : Type 0} {g : Ghosts O N} {h : Nodes N} (old : Host O N g h) (came : Result (List ℕ) LineFault) (line : List ℕ) (replied : HostReply) (new : Host O N g h) (v : HostView) (past : IsToldAt (member_of old).1 (places_of old) line replied)
+    → IsCameOf line came → RepliesTo old came replied new → NeverLie h → AreMembers old → StandsAs old v → Goes old line replied new v past
+goes old (Ok kept) line replied new v past is (inl (n, rest, numbered, replies)) never members stands =
+    goes_in old line n rest replied new v past (subst (λ x. IsNumbered x n rest) is.0 numbered) replies never members stands
+goes old (Ok kept) line replied new v past is (inr (none, replies)) never members stands =
+    goes_alone old line replied new v past (subst (λ x. HasNoNumber x) is.0 none) (subst (λ x. RepliesAlone old x replied new) is.0 replies) never stands
+goes old (Err why) line replied new v past is (told, same) never members stands =
+    record { view = v; replies = inr (inr (inr (record { why = why; unasked = inl is; told = told; same = refl }))); stands = stays old new v same stands }
 
 -- what a reply leaves as it was
 record Keeps {O N : Type 0} {g : Ghosts O N} {h : Nodes N} (old new : Host O N g h) : Type 0 where
@@ -139,11 +216,22 @@ keeps_in old n rest (There id count many) new replies = absurd replies
 keeps_in old n rest (InEpoch m acted) new (is, inl (refused, same)) = keeps_all old new same
 keeps_in old n rest (InEpoch m acted) new (is, inr done) = record { same = done.acts.same; members = done.acts.members }
 keeps_in old n rest (Released told next place) new replies = absurd replies
+keeps_in old n rest (State bytes) new replies = absurd replies
+keeps_in old n rest StateTooLong new replies = absurd replies
+keeps_in old n rest (Joined epoch) new replies = absurd replies
+keeps_in old n rest NoState new replies = absurd replies
+keeps_in old n rest (Again outputs) new replies = absurd replies
 keeps_in old n rest (AsNode told) new (near, (why, is, nothing, same)) = keeps_all old new same
+
+keeps_asked : {O N : Type 0} {g : Ghosts O N} {h : Nodes N} (old : Host O N g h) (asked : HostRequest) (replied : HostReply) (new : Host O N g h) → DoesAsked old asked replied new → Keeps old new
+keeps_asked old (host_asked.Release now) replied new (given, releases, told) = record { same = releases.same; members = releases.members }
+keeps_asked old host_asked.State replied new (state, states, told, same) = keeps_all old new same
+keeps_asked old (host_asked.Join bytes) replied new (joined, joins, told) = record { same = joins.same; members = joins.members }
+keeps_asked old host_asked.Again replied new (outputs, again, told, same) = keeps_all old new same
 
 keeps : {O N : Type 0} {g : Ghosts O N} {h : Nodes N} (old : Host O N g h) (came : Result (List ℕ) LineFault) (replied : HostReply) (new : Host O N g h) → RepliesTo old came replied new → Keeps old new
 keeps old (Ok line) replied new (inl (n, rest, numbered, replies)) = keeps_in old n rest replied new replies
-keeps old (Ok line) replied new (inr (none, inl (now, given, asks, releases, told))) = record { same = releases.same; members = releases.members }
+keeps old (Ok line) replied new (inr (none, inl (asked, asks, does))) = keeps_asked old asked replied new does
 keeps old (Ok line) replied new (inr (none, inr (why, nothing, told, same))) = keeps_all old new same
 keeps old (Err why) replied new (told, same) = keeps_all old new same
 
@@ -159,54 +247,84 @@ pub record IsThere {O N : Type 0} {g : Ghosts O N} {h : Nodes N} (host : Host O 
   pub are : AreMembers host
   pub stands : StandsAs host v
 
--- lines were done from v on
-pub record Runs {O N : Type 0} {g : Ghosts O N} {h : Nodes N} (host : Host O N g h) (members me places : ℕ) (v : HostView) (turns : List (List ℕ × HostReply)) : Type 0 where
-  pub last : HostView
-  pub runs : RunsAs g.may_fail members me places v turns last
-  pub whole : All (λ turn. IsLine turn.0) turns
-  pub there : IsThere host members me places last
+-- lines were done from v on, as long as each state to which the host went was told, and this holds of where it is then
+abbrev pub LivesTo : (HostView → Type 0) → (NodeFault → Type 0) → (members me places : ℕ) → HostView → List (List ℕ × HostReply) → Type 0
+LivesTo P may_fail members me places v [] = P v
+LivesTo P may_fail members me places v (turn ∷ turns) =
+    (past : IsToldAt members places turn.0 turn.1)
+    → (between : HostView) × RepliesAs may_fail members me places v turn.0 turn.1 past between × LivesTo P may_fail members me places between turns
 
-runs_none : {O N : Type 0} {g : Ghosts O N} {h : Nodes N} (a b : HostServer O N g h) (members me places : ℕ) (v : HostView) → b ≡ a → IsThere (host_of a) members me places v → Runs (host_of b) members me places v []
-runs_none {O} {N} {g} {h} a b members me places v same there =
-    record { last = v; runs = refl; whole = All-nil (λ turn. IsLine turn.0); there = subst (λ (x : HostServer O N g h). IsThere (host_of x) members me places v) (sym same) there }
+-- the same with where the host is in the end
+abbrev pub Runs : {O N : Type 0} {g : Ghosts O N} {h : Nodes N} → Host O N g h → (members me places : ℕ) → HostView → List (List ℕ × HostReply) → Type 0
+Runs {O} {N} {g} {h} host members me places v turns = LivesTo (IsThere host members me places) g.may_fail members me places v turns
 
--- one line was done
+-- some lines, and then others
+pub runs_on : (P Q : HostView → Type 0) (may_fail : NodeFault → Type 0) (members me places : ℕ) (v : HostView) (turns later : List (List ℕ × HostReply))
+    → LivesTo P may_fail members me places v turns → ((u : HostView) → P u → LivesTo Q may_fail members me places u later) → LivesTo Q may_fail members me places v (turns ++ later)
+runs_on P Q may_fail members me places v [] later there on = on v there
+runs_on P Q may_fail members me places v (turn ∷ turns) later lives on = λ past.
+    let one = lives past in
+    (one.0, one.1, runs_on P Q may_fail members me places one.0 turns later one.2 on)
+
+pub lives_as : (P : HostView → Type 0) (may_fail : NodeFault → Type 0) (members me places : ℕ) (v : HostView) (turns : List (List ℕ × HostReply))
+    → LivesTo P may_fail members me places v turns → LivesAs may_fail members me places v turns
+lives_as P may_fail members me places v [] there = tt
+lives_as P may_fail members me places v (turn ∷ turns) lives = λ past.
+    let one = lives past in
+    (one.0, one.1, lives_as P may_fail members me places one.0 turns one.2)
+
+there_still : {O N : Type 0} {g : Ghosts O N} {h : Nodes N} (a b : HostServer O N g h) (members me places : ℕ) (v : HostView) → b ≡ a → IsThere (host_of a) members me places v → IsThere (host_of b) members me places v
+there_still {O} {N} {g} {h} a b members me places v same there = subst (λ (x : HostServer O N g h). IsThere (host_of x) members me places v) (sym same) there
+
+-- one line was done, by host me of so many members, with so many places in an epoch
+abbrev TurnsSo : {O N : Type 0} {g : Ghosts O N} {h : Nodes N} → Host O N g h → (who : ℕ × ℕ) (places : ℕ) → HostView → List ℕ → HostReply → Type 0
+TurnsSo {O} {N} {g} {h} new who places v line replied =
+    (past : IsToldAt who.1 places line replied) → (v' : HostView) × RepliesAs g.may_fail who.1 who.0 places v line replied past v' × IsThere new who.1 who.0 places v'
+
+own_turn : {O N I : Type 0} {g : Ghosts O N} {h : Nodes N} (input : Inputs I) (line : List ℕ) (replied : HostReply) (a : HostServer O N g h) (i : I) (b : HostServer O N g h) (j : I) (v : HostView)
+    → LineTurn host_keeper input line replied a i b j → NeverLie h → AreMembers (host_of a) → StandsAs (host_of a) v
+    → TurnsSo (host_of b) (member_of (host_of a)) (places_of (host_of a)) v line replied
+own_turn input line replied a i b j v turn never members stands = λ past.
+    let done = goes (host_of a) turn.came line replied (host_of b) v past turn.is turn.replies never members stands in
+    let kept = keeps (host_of a) turn.came replied (host_of b) turn.replies in
+    (done.view, done.replies, record { who = kept.same.member; many = kept.same.places; are = kept.members members; stands = done.stands })
+
 one_turn : {O N I : Type 0} {g : Ghosts O N} {h : Nodes N} (input : Inputs I) (line : List ℕ) (replied : HostReply) (a : HostServer O N g h) (i : I) (b : HostServer O N g h) (j : I) (members me places : ℕ) (v : HostView)
-    → LineTurn host_keeper input line replied a i b j → NeverLie h → IsThere (host_of a) members me places v
-    → (v' : HostView) × RepliesAs g.may_fail members me places v line replied v' × IsThere (host_of b) members me places v'
-one_turn {O} {N} {I} {g} {h} input line replied a i b j members me places v turn never there =
-    let done = goes (host_of a) turn.came line replied (host_of b) v turn.is turn.replies never there.are there.stands in
-    let kept = keeps (host_of a) turn.came replied (host_of b) turn.replies in (
-      done.view,
-      subst (λ (m : ℕ × ℕ). RepliesAs g.may_fail m.1 m.0 places v line replied done.view) there.who
-          (subst (λ p. RepliesAs g.may_fail (member_of (host_of a)).1 (member_of (host_of a)).0 p v line replied done.view) there.many done.replies),
-      record { who = kept.same.member ∙ there.who; many = kept.same.places ∙ there.many; are = kept.members there.are; stands = done.stands },
-    )
-
-runs_more : {O N : Type 0} {g : Ghosts O N} {h : Nodes N} (host : Host O N g h) (members me places : ℕ) (v between : HostView) (turn : List ℕ × HostReply) (turns : List (List ℕ × HostReply))
-    → IsLine turn.0 → RepliesAs g.may_fail members me places v turn.0 turn.1 between → Runs host members me places between turns → Runs host members me places v (turn ∷ turns)
-runs_more host members me places v between turn turns whole replies runs =
-    record { last = runs.last; runs = (between, replies, runs.runs); whole = All-cons (λ turn. IsLine turn.0) turn turns whole runs.whole; there = runs.there }
+    → LineTurn host_keeper input line replied a i b j → NeverLie h → IsThere (host_of a) members me places v → TurnsSo (host_of b) (me, members) places v line replied
+one_turn input line replied a i b j members me places v turn never there =
+    subst (λ p. TurnsSo (host_of b) (me, members) p v line replied) there.many
+    (subst (λ m. TurnsSo (host_of b) m (places_of (host_of a)) v line replied) there.who (own_turn input line replied a i b j v turn never there.are there.stands))
 
 pub unkept_runs : {O N I : Type 0} {g : Ghosts O N} {h : Nodes N} (input : Inputs I) (turns : List (List ℕ × HostReply)) (a : HostServer O N g h) (i : I) (b : HostServer O N g h) (j : I) (members me places : ℕ) (v : HostView)
     → UnkeptTurns host_keeper input turns a i b j → NeverLie h → IsThere (host_of a) members me places v → Runs (host_of b) members me places v turns
-unkept_runs input [] a i b j members me places v (same, left) never there = runs_none a b members me places v same there
-unkept_runs input (turn ∷ turns) a i b j members me places v (between, rest, one, others) never there =
-    let first = one_turn input turn.0 turn.1 a i between rest members me places v one never there in
-    runs_more (host_of b) members me places v first.0 turn turns one.whole first.1 (unkept_runs input turns between rest b j members me places first.0 others never first.2)
+unkept_runs input [] a i b j members me places v (same, left) never there = there_still a b members me places v same there
+unkept_runs input (turn ∷ turns) a i b j members me places v (between, rest, one, others) never there = λ past.
+    let first = one_turn input turn.0 turn.1 a i between rest members me places v one never there past in
+    (first.0, first.1, unkept_runs input turns between rest b j members me places first.0 others never first.2)
 
 pub batched_runs : {O N I : Type 0} {g : Ghosts O N} {h : Nodes N} (input : Inputs I) (turns : List (List ℕ × HostReply)) (a : HostServer O N g h) (i : I) (b : HostServer O N g h) (j : I) (members me places : ℕ) (v : HostView)
     → BatchedTurns host_keeper input turns a i b j → NeverLie h → IsThere (host_of a) members me places v → Runs (host_of b) members me places v turns
-batched_runs input [] a i b j members me places v (n, commits, left) never there = runs_none a b members me places v (no_commit n a b commits) there
-batched_runs {O} {N} {I} {g} {h} input (turn ∷ turns) a i b j members me places v (n, before, after, rest, commits, one, others) never there =
-    let here = subst (λ (x : HostServer O N g h). IsThere (host_of x) members me places v) (sym (no_commit n a before commits)) there in
-    let first = one_turn input turn.0 turn.1 before i after rest members me places v one never here in
-    runs_more (host_of b) members me places v first.0 turn turns one.whole first.1 (batched_runs input turns after rest b j members me places first.0 others never first.2)
+batched_runs input [] a i b j members me places v (n, commits, left) never there = there_still a b members me places v (no_commit n a b commits) there
+batched_runs {O} {N} {I} {g} {h} input (turn ∷ turns) a i b j members me places v (n, before, after, rest, commits, one, others) never there = λ past.
+    let here = there_still a before members me places v (no_commit n a before commits) there in
+    let first = one_turn input turn.0 turn.1 before i after rest members me places v one never here past in
+    (first.0, first.1, batched_runs input turns after rest b j members me places first.0 others never first.2)
 
--- some lines, and then others
-pub runs_on : {O N : Type 0} {g : Ghosts O N} {h : Nodes N} (host : Host O N g h) (members me places : ℕ) (v between : HostView) (turns later : List (List ℕ × HostReply))
-    → RunsAs g.may_fail members me places v turns between → All (λ turn. IsLine turn.0) turns → Runs host members me places between later → Runs host members me places v (turns ++ later)
-runs_on {O} {N} {g} {h} host members me places v between [] later same whole after = subst (λ (x : HostView). Runs host members me places x later) same after
-runs_on host members me places v between (turn ∷ turns) later (mid, one, others) whole after =
-    runs_more host members me places v mid turn (turns ++ later) (All-head (λ turn. IsLine turn.0) turn turns whole) one
-    (runs_on host members me places mid between turns later others (All-tail (λ turn. IsLine turn.0) turn turns whole) after)
+-- each line was whole
+pub unkept_whole : {O N I : Type 0} {g : Ghosts O N} {h : Nodes N} (input : Inputs I) (turns : List (List ℕ × HostReply)) (a : HostServer O N g h) (i : I) (b : HostServer O N g h) (j : I)
+    → UnkeptTurns host_keeper input turns a i b j → All (λ turn. IsLine turn.0) turns
+unkept_whole input [] a i b j turned = All-nil (λ turn. IsLine turn.0)
+unkept_whole input (turn ∷ turns) a i b j (between, rest, one, others) =
+    All-cons (λ turn. IsLine turn.0) turn turns one.whole (unkept_whole input turns between rest b j others)
+
+pub batched_whole : {O N I : Type 0} {g : Ghosts O N} {h : Nodes N} (input : Inputs I) (turns : List (List ℕ × HostReply)) (a : HostServer O N g h) (i : I) (b : HostServer O N g h) (j : I)
+    → BatchedTurns host_keeper input turns a i b j → All (λ turn. IsLine turn.0) turns
+batched_whole input [] a i b j turned = All-nil (λ turn. IsLine turn.0)
+batched_whole input (turn ∷ turns) a i b j (n, before, after, rest, commits, one, others) =
+    All-cons (λ turn. IsLine turn.0) turn turns one.whole (batched_whole input turns after rest b j others)
+
+pub both_whole : (turns later : List (List ℕ × HostReply)) → All (λ turn. IsLine turn.0) turns → All (λ turn. IsLine turn.0) later → All (λ turn. IsLine turn.0) (turns ++ later)
+both_whole [] later whole more = more
+both_whole (turn ∷ turns) later whole more =
+    All-cons (λ turn. IsLine turn.0) turn (turns ++ later) (All-head (λ turn. IsLine turn.0) turn turns whole)
+    (both_whole turns later (All-tail (λ turn. IsLine turn.0) turn turns whole) more)

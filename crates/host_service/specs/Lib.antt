@@ -1,4 +1,5 @@
 pub mod Numbers
+pub mod Asking
 pub mod Texts
 pub mod Replying
 pub mod Serving

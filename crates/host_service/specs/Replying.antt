@@ -1,11 +1,20 @@
 -- What a host replies to a line.
-use Rattle.std.specs.Prelude.{◌≡◌, ◌⊎◌, ℕ, Bool, true, false, ◌++◌, List, Result, Ok, Err}
+use Rattle.std.specs.Prelude.{◌≡◌, ◌⊎◌, ℕ, Bool, true, false, ◌++◌, nat_le, if◌then◌else◌, List, length}
+use Rattle.std.specs.Prelude.{Result, Ok, Err, IfErr, IfOk, OnOk, Vec}
+use Rattle.std.specs.declared.alloc.AllocError.{AllocError}
+use Rattle.std.specs.declared.alloc.Global.{Global}
+use Rattle.grant_machine.specs.declared.output.Output.{Output}
 use Rattle.hosts.specs.Acting.{ActsIn, IsAskedIn, IsRefusedSo}
 use Rattle.hosts.specs.Hosts.{AreMembers, IsHonest, KeepsTrust, SameHost, StandsAs, are_up, member_of, places_of}
-use Rattle.hosts.specs.Views.{HostView, MovesIn, Releases}
+use Rattle.hosts.specs.Hosts.{number_of}
+use Rattle.hosts.specs.Joining.{Joins, JoinsAs, StaysFor}
+use Rattle.hosts.specs.States.{IsStateOf}
+use Rattle.hosts.specs.Views.{HostView, MovesIn, Releases, TellsAgain}
 use Rattle.hosts.specs.declared.acted.Given.{Given}
 use Rattle.hosts.specs.declared.acted.Given.TheVariants.{Outputs, Failed}
 use Rattle.hosts.specs.declared.acted.HostActed.{HostActed}
+use Rattle.hosts.specs.declared.fault.JoinFault.{JoinFault}
+use Rattle.hosts.specs.declared.fault.JoinFault.TheVariants as cant_join
 use Rattle.hosts.specs.declared.host.Host.{Host}
 use Rattle.hosts.specs.declared.opens.Opens.{Ghosts}
 use Rattle.node.specs.declared.node.Node.{Ghosts as Nodes}
@@ -17,12 +26,19 @@ use Rattle.node_lines.specs.declared.request.Request.TheVariants as request
 use Rattle.node_service.specs.Seated.{asked_of}
 use Rattle.node_service.specs.declared.keeper.Keeper.{Ghosts as Keepers}
 use Rattle.node_service.specs.declared.outgoing.Reply.TheVariants as reply
+use Rattle.proposer.specs.declared.fault.NodeFault.{NodeFault}
+use Rattle.proposer.specs.declared.fault.NodeFault.TheVariants.{OutOfMemory}
 use Rattle.seats.specs.Moves.{Ask}
 use Rattle.seats.specs.declared.acted.Acted.TheVariants as came
+use Rattle.host_service.specs.Asking.{AsksHost, AsksNoHost}
 use Rattle.host_service.specs.Numbers.{HasNoNumber, IsNumbered}
+use Rattle.host_service.specs.declared.asked.HostRequest.{HostRequest}
+use Rattle.host_service.specs.declared.asked.HostRequest.TheVariants as ask
 use Rattle.host_service.specs.declared.number.EpochNumber.{EpochNumber}
 use Rattle.host_service.specs.declared.reply.HostReply.{HostReply}
-use Rattle.host_service.specs.declared.reply.HostReply.TheVariants.{There, InEpoch, Released, AsNode}
+use Rattle.host_service.specs.declared.reply.HostReply.TheVariants.{There, InEpoch, Released, State, StateTooLong}
+use Rattle.host_service.specs.declared.reply.HostReply.TheVariants.{Joined, NoState, Again, AsNode}
+use Rattle.host_service.specs.declared.reply.TheConstants.{LONGEST_STATE}
 use Rattle.host_service.specs.declared.service.HostServer.{HostServer}
 
 -- the host that replies
@@ -67,10 +83,51 @@ pub record ReleasesSo {O N : Type 0} {g : Ghosts O N} {h : Nodes N} (old : Host 
   pub trust : KeepsTrust old new
   pub moves : IsHonest new → (v : HostView) → StandsAs old v → (v' : HostView) × Releases g.may_fail (places_of old) v now given v' × StandsAs new v'
 
+-- and so was the state at the start of its own epoch, which came
+pub record StatesSo {O N : Type 0} {g : Ghosts O N} {h : Nodes N} (host : Host O N g h) (state : Result (Vec ℕ Global) AllocError) : Type 0 where
+  pub is : (v : HostView) → StandsAs host v
+      → IfOk state (λ bytes. IsStateOf (member_of host).0 (member_of host).1 (places_of host) v.passed bytes.items)
+
+-- it was given the bytes of a state, and went there or stayed
+pub record JoinsSo {O N : Type 0} {g : Ghosts O N} {h : Nodes N} (old : Host O N g h) (bytes : List ℕ) (joined : Result (Unit {0}) JoinFault) (new : Host O N g h) : Type 0 where
+  pub joins : OnOk joined (Joins old bytes new)
+  pub stays : IfErr joined (λ fault. StaysFor old bytes fault new)
+  pub same : SameHost old new
+  pub members : AreMembers old → AreMembers new
+  pub trust : KeepsTrust old new
+  pub moves : IsHonest new → (v : HostView) → StandsAs old v → JoinsAs old v bytes joined new
+
+-- it was asked what modems need that begin anew
+pub record AgainSo {O N : Type 0} {g : Ghosts O N} {h : Nodes N} (host : Host O N g h) (outputs : Result (Vec Output Global) AllocError) : Type 0 where
+  pub is : (v : HostView) → StandsAs host v → IfOk outputs (λ outputs. TellsAgain (places_of host) v outputs.items)
+
+-- the reply that tells a fault
+abbrev pub fault_reply : NodeFault → HostReply
+fault_reply why = AsNode (reply.Acted (came.Fault why))
+
 -- the reply to a release of a host with so many places in an epoch
 abbrev pub reply_of : ℕ → Given → HostReply
 reply_of places (Outputs outputs epoch place) = Released (reply.Acted (came.Released outputs)) (record { epoch = epoch; places = places }) place
-reply_of places (Failed why) = AsNode (reply.Acted (came.Fault why))
+reply_of places (Failed why) = fault_reply why
+
+-- the reply that tells a state: its bytes, unless they are too many
+abbrev pub state_told : List ℕ → HostReply
+state_told bytes = if nat_le (length bytes) LONGEST_STATE then State bytes else StateTooLong
+
+abbrev pub state_reply : Result (Vec ℕ Global) AllocError → HostReply
+state_reply (Ok bytes) = state_told bytes.items
+state_reply (Err lack) = fault_reply OutOfMemory
+
+-- the reply to a state, of a host whose own epoch is this one then
+abbrev pub join_reply : ℕ → Result (Unit {0}) JoinFault → HostReply
+join_reply epoch (Ok done) = Joined epoch
+join_reply epoch (Err cant_join.NoState) = NoState
+join_reply epoch (Err (cant_join.Node why)) = fault_reply why
+
+-- the reply that tells outputs again
+abbrev pub again_reply : Result (Vec Output Global) AllocError → HostReply
+again_reply (Ok outputs) = Again outputs
+again_reply (Err lack) = fault_reply OutOfMemory
 
 -- what is behind a number asks this of the node of the epoch, and this came of it
 pub record ActsAsAsked {O N : Type 0} {g : Ghosts O N} {h : Nodes N} (old : Host O N g h) (n : EpochNumber) (rest : List ℕ) (acted : HostActed) (new : Host O N g h) : Type 0 where
@@ -85,14 +142,32 @@ abbrev pub RepliesIn : {O N : Type 0} {g : Ghosts O N} {h : Nodes N} → Host O 
 RepliesIn old n rest (There id members places) new = ⊥
 RepliesIn old n rest (InEpoch m acted) new = (m ≡ n) × ((IsRefusedSo old n.epoch n.places acted × (new ≡ old)) ⊎ ActsAsAsked old n rest acted new)
 RepliesIn old n rest (Released told next place) new = ⊥
+RepliesIn old n rest (State bytes) new = ⊥
+RepliesIn old n rest StateTooLong new = ⊥
+RepliesIn old n rest (Joined epoch) new = ⊥
+RepliesIn old n rest NoState new = ⊥
+RepliesIn old n rest (Again outputs) new = ⊥
 RepliesIn old n rest (AsNode told) new =
     IsAskedIn old n.epoch n.places × ((why : LineFault) × (told ≡ reply.Refused why) × IsNotAskedOfNode rest why × (new ≡ old))
 
--- the reply to a line without a number: what came of a release, or why it asks none
+-- a host was asked to release, was given a state, or was asked this, and replied so to what came of it
+abbrev pub DoesRelease : {O N : Type 0} {g : Ghosts O N} {h : Nodes N} → Host O N g h → ℕ → HostReply → Host O N g h → Type 0
+DoesRelease old now replied new = (given : Given) × ReleasesSo old now given new × (replied ≡ reply_of (places_of old) given)
+
+abbrev pub DoesJoin : {O N : Type 0} {g : Ghosts O N} {h : Nodes N} → Host O N g h → List ℕ → HostReply → Host O N g h → Type 0
+DoesJoin old bytes replied new = (joined : Result (Unit {0}) JoinFault) × JoinsSo old bytes joined new × (replied ≡ join_reply (number_of new) joined)
+
+abbrev pub DoesAsked : {O N : Type 0} {g : Ghosts O N} {h : Nodes N} → Host O N g h → HostRequest → HostReply → Host O N g h → Type 0
+DoesAsked old (ask.Release now) replied new = DoesRelease old now replied new
+DoesAsked old ask.State replied new = (state : Result (Vec ℕ Global) AllocError) × StatesSo old state × (replied ≡ state_reply state) × (new ≡ old)
+DoesAsked old (ask.Join bytes) replied new = DoesJoin old bytes replied new
+DoesAsked old ask.Again replied new = (outputs : Result (Vec Output Global) AllocError) × AgainSo old outputs × (replied ≡ again_reply outputs) × (new ≡ old)
+
+-- the reply to a line without a number: what came of what it asks, or why it asks nothing
 abbrev pub RepliesAlone : {O N : Type 0} {g : Ghosts O N} {h : Nodes N} → Host O N g h → List ℕ → HostReply → Host O N g h → Type 0
 RepliesAlone old line replied new =
-    ((now : ℕ) × (given : Given) × Asks line (request.Release now) × ReleasesSo old now given new × (replied ≡ reply_of (places_of old) given))
-    ⊎ ((why : LineFault) × IsNoRelease line why × (replied ≡ AsNode (reply.Refused why)) × (new ≡ old))
+    ((asked : HostRequest) × AsksHost line asked × DoesAsked old asked replied new)
+    ⊎ ((why : LineFault) × AsksNoHost line why × (replied ≡ AsNode (reply.Refused why)) × (new ≡ old))
 
 -- the reply to a line, or to one that was let go for this fault
 abbrev pub RepliesTo : {O N : Type 0} {g : Ghosts O N} {h : Nodes N} → Host O N g h → Result (List ℕ) LineFault → HostReply → Host O N g h → Type 0

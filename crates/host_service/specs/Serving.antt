@@ -1,8 +1,12 @@
 -- What a host does with the lines that it reads.
-use Rattle.std.specs.Prelude.{◌≡◌, ◌⊎◌, ℕ, ◌-◌, ◌^◌, List, [], ◌∷◌, ◌++◌, length, All, IsTrue}
+use Rattle.std.specs.Prelude.{◌≡◌, ◌⊎◌, ℕ, ◌+◌, ◌-◌, ◌<◌, ◌^◌, List, [], ◌∷◌, ◌++◌, length, All, IsTrue, Vec}
+use Rattle.std.specs.declared.alloc.Global.{Global}
 use Rattle.std.specs.Io.KnownBytes.{Appends, Consumes}
+use Rattle.epochs.specs.Epochs.{AreFull}
+use Rattle.grant_machine.specs.declared.output.Output.{Output as Told}
 use Rattle.hosts.specs.Hosts.{member_of, places_of}
-use Rattle.hosts.specs.Views.{HostView, IsNear, MovesIn, Releases}
+use Rattle.hosts.specs.States.{IsStateOf}
+use Rattle.hosts.specs.Views.{HostView, IsNear, MovesIn, Releases, TellsAgain, joined as joined_at, number as number_at}
 use Rattle.hosts.specs.declared.acted.Given.{Given}
 use Rattle.hosts.specs.declared.acted.HostActed.{HostActed}
 use Rattle.hosts.specs.declared.acted.HostActed.TheVariants.{Of, Ended, Ahead, Gone, OtherPlaces}
@@ -23,13 +27,16 @@ use Rattle.node_service.specs.declared.lines.Lines.{Ghosts as Inputs}
 use Rattle.node_service.specs.declared.outbox.Outbox.{Ghosts as Outputs}
 use Rattle.node_service.specs.declared.outgoing.Reply.TheVariants as reply
 use Rattle.proposer.specs.declared.fault.NodeFault.{NodeFault}
+use Rattle.proposer.specs.declared.fault.NodeFault.TheVariants.{OutOfMemory}
 use Rattle.seats.specs.Moves.{Ask}
+use Rattle.host_service.specs.Asking.{AsksHost, AsksNoHost}
 use Rattle.host_service.specs.Numbers.{HasNoNumber, IsNumbered}
-use Rattle.host_service.specs.Replying.{IsAskedOfNode, IsNoRelease, IsNotAskedOfNode, reply_of}
+use Rattle.host_service.specs.Replying.{IsAskedOfNode, IsNotAskedOfNode, fault_reply, reply_of, state_told}
+use Rattle.host_service.specs.declared.asked.HostRequest.TheVariants as host_asked
 use Rattle.host_service.specs.Texts.{host_text}
 use Rattle.host_service.specs.declared.number.EpochNumber.{EpochNumber}
 use Rattle.host_service.specs.declared.reply.HostReply.{HostReply}
-use Rattle.host_service.specs.declared.reply.HostReply.TheVariants.{InEpoch, AsNode}
+use Rattle.host_service.specs.declared.reply.HostReply.TheVariants.{InEpoch, Joined, NoState, Again, AsNode}
 
 -- nodes whose records always return what they committed, as those in memory
 abbrev pub NeverLie : {N : Type 0} → Nodes N → Type 0
@@ -66,13 +73,66 @@ pub record ReleasesAs (may_fail : NodeFault → Type 0) (places : ℕ) (v : Host
   pub moves : Releases may_fail places v now given v'
   pub told : replied ≡ reply_of places given
 
+-- a line has no number, and gives this state
+pub record Gives (line bytes : List ℕ) : Type 0 where
+  pub bare : HasNoNumber line
+  pub asks : AsksHost line (host_asked.Join bytes)
+
+-- it asked for the state at the start of the host's own epoch, which was told, or memory ran out
+pub record StatesAs (members me places : ℕ) (v : HostView) (line : List ℕ) (replied : HostReply) (v' : HostView) : Type 0 where
+  pub bare : HasNoNumber line
+  pub asks : AsksHost line host_asked.State
+  pub told : ((bytes : List ℕ) × IsStateOf me members places v.passed bytes × (replied ≡ state_told bytes)) ⊎ (replied ≡ fault_reply OutOfMemory)
+  pub same : v' ≡ v
+
+-- it asked what modems need that begin anew, likewise
+pub record AgainAs (places : ℕ) (v : HostView) (line : List ℕ) (replied : HostReply) (v' : HostView) : Type 0 where
+  pub bare : HasNoNumber line
+  pub asks : AsksHost line host_asked.Again
+  pub told : ((outputs : Vec Told Global) × TellsAgain places v outputs.items × (replied ≡ Again outputs)) ⊎ (replied ≡ fault_reply OutOfMemory)
+  pub same : v' ≡ v
+
+-- the bytes are the state behind full epochs, as some member tells it
+pub record IsToldState (members places : ℕ) (bytes : List ℕ) : Type 0 where
+  pub teller : ℕ
+  pub passed : List (List (List ℕ))
+  pub full : AreFull places passed
+  pub is : IsStateOf teller members places passed bytes
+
+-- where a host went to a state at a line, it was the state behind full epochs, as some member tells it
+abbrev pub IsToldAt : (members places : ℕ) → List ℕ → HostReply → Type 0
+IsToldAt members places line replied = (bytes : List ℕ) (epoch : ℕ) → Gives line bytes → replied ≡ Joined epoch → IsToldState members places bytes
+
+-- it gave a state, which was told so, and the host went to the start of its epoch, which is above its own one
+pub record GoesToState (members places : ℕ) (v : HostView) (line : List ℕ) (replied : HostReply) (past : IsToldAt members places line replied) (v' : HostView) : Type 0 where
+  pub bytes : List ℕ
+  pub epoch : ℕ
+  pub gives : Gives line bytes
+  pub told : replied ≡ Joined epoch
+  pub above : number_at v < epoch
+  pub is : epoch ≡ length (past bytes epoch gives told).passed + 1
+  pub moves : v' ≡ joined_at places v (past bytes epoch gives told).passed
+
+-- or it didn't go: the bytes are no such state, or a node failed to open so, or memory ran out
+pub record StaysAs (may_fail : NodeFault → Type 0) (v : HostView) (line : List ℕ) (replied : HostReply) (v' : HostView) : Type 0 where
+  pub bytes : List ℕ
+  pub gives : Gives line bytes
+  pub told : (replied ≡ NoState) ⊎ ((why : NodeFault) × (may_fail why ⊎ (why ≡ OutOfMemory)) × (replied ≡ fault_reply why))
+  pub same : v' ≡ v
+
+-- what a line without a number asked, but for a release
+abbrev pub AloneAs : (NodeFault → Type 0) → (members me places : ℕ) → HostView → (line : List ℕ) (replied : HostReply) → IsToldAt members places line replied → HostView → Type 0
+AloneAs may_fail members me places v line replied past v' =
+    StatesAs members me places v line replied v'
+    ⊎ (AgainAs places v line replied v' ⊎ (GoesToState members places v line replied past v' ⊎ StaysAs may_fail v line replied v'))
+
 -- a line asks nothing, for this fault: it was let go; or what is behind its number asks nothing; or it has no number, and
--- is no release
+-- asks no host
 abbrev pub IsUnasked : (places : ℕ) → HostView → List ℕ → LineFault → Type 0
 IsUnasked places v line why =
     IsDropped line why
     ⊎ (((n : EpochNumber) × (rest : List ℕ) × IsNumbered line n rest × (n.places ≡ places) × IsNear v n.epoch × IsNotAskedOfNode rest why)
-    ⊎ (HasNoNumber line × IsNoRelease line why))
+    ⊎ (HasNoNumber line × AsksNoHost line why))
 
 -- and the host says so, and stays as it is
 pub record TurnsAway (places : ℕ) (v : HostView) (line : List ℕ) (replied : HostReply) (v' : HostView) : Type 0 where
@@ -83,15 +143,17 @@ pub record TurnsAway (places : ℕ) (v : HostView) (line : List ℕ) (replied : 
 
 -- host me of so many members, with so many places in an epoch, whose nodes may fail to open so, which stood at v, replied
 -- so to a line, and stands at v'
-abbrev pub RepliesAs : (NodeFault → Type 0) → (members me places : ℕ) → HostView → List ℕ → HostReply → HostView → Type 0
-RepliesAs may_fail members me places v line replied v' =
-    ActsAs members me places v line replied v' ⊎ (ReleasesAs may_fail places v line replied v' ⊎ TurnsAway places v line replied v')
+abbrev pub RepliesAs : (NodeFault → Type 0) → (members me places : ℕ) → HostView → (line : List ℕ) (replied : HostReply) → IsToldAt members places line replied → HostView → Type 0
+RepliesAs may_fail members me places v line replied past v' =
+    ActsAs members me places v line replied v'
+    ⊎ (ReleasesAs may_fail places v line replied v' ⊎ (AloneAs may_fail members me places v line replied past v' ⊎ TurnsAway places v line replied v'))
 
--- the same of lines, one after another
-abbrev pub RunsAs : (NodeFault → Type 0) → (members me places : ℕ) → HostView → List (List ℕ × HostReply) → HostView → Type 0
-RunsAs may_fail members me places v [] v' = v' ≡ v
-RunsAs may_fail members me places v (turn ∷ turns) v' =
-    (between : HostView) × RepliesAs may_fail members me places v turn.0 turn.1 between × RunsAs may_fail members me places between turns v'
+-- the same of lines, one after another, as long as each state to which the host went was told so
+abbrev pub LivesAs : (NodeFault → Type 0) → (members me places : ℕ) → HostView → List (List ℕ × HostReply) → Type 0
+LivesAs may_fail members me places v [] = Unit {0}
+LivesAs may_fail members me places v (turn ∷ turns) =
+    (past : IsToldAt members places turn.0 turn.1)
+    → (between : HostView) × RepliesAs may_fail members me places v turn.0 turn.1 past between × LivesAs may_fail members me places between turns
 
 -- these lines were done and replied to, and then: no whole line was left; or a node was down; or the input failed; or the
 -- replies from one on couldn't be written or sent out; or they are all that a run may have
@@ -119,9 +181,8 @@ EndsAs {I} {O} input output ends.Spent turns i o i' o' =
 pub record ServesAs {I O : Type 0} (input : Inputs I) (output : Outputs O) (may_fail : NodeFault → Type 0) (members me places : ℕ) (v : HostView)
     (end : BatchedEnd) (i : I) (o : O) (i' : I) (o' : O) : Type 0 where
   pub turns : List (List ℕ × HostReply)
-  pub last : HostView
   pub whole : All (λ turn. IsLine turn.0) turns
-  pub runs : RunsAs may_fail members me places v turns last
+  pub lives : LivesAs may_fail members me places v turns
   pub ends : EndsAs input output end turns i o i' o'
 
 -- a host that stood at v did so, as the member that it is, with the places that it has

@@ -2,11 +2,25 @@
 
 ghost use Rattle.std.specs.Prelude.{◌≡◌, ◌≤◌, false, MatchOption, MatchResult, drop, vec_len};
 ghost use Rattle.node_lines.specs.Lines.{Asks};
+ghost use Rattle.host_service.specs.Asking.{AsksHost, AsksNoHost};
 ghost use Rattle.host_service.specs.Replying.{IsAskedOfNode, IsNoRelease, IsNotAskedOfNode, is_release};
 
 use ballots::Bytes;
-use node_lines::{LineFault, Request, behind, read_line};
+use node_lines::{LineFault, Request, behind, bytes_from, read_line};
 use std::alloc::Global;
+
+/// What a line without a number asks of a host.
+#[derive(Drop)]
+pub enum HostRequest {
+    /// To release what it can by this time, in minislots.
+    Release(u64),
+    /// The state at the start of its own epoch.
+    State,
+    /// To go to the start of the epoch of this state.
+    Join(Bytes),
+    /// What modems need that begin anew.
+    Again,
+}
 
 /// What is behind a place of the line, in the line's memory.
 pub(crate) fn rest_of(line: Vec<u8>, place: usize) -> Vec<u8>
@@ -43,8 +57,8 @@ pub(crate) fn asked_of_node(alloc: Global, rest: Vec<u8>) -> Result<Request, Lin
     }
 }
 
-/// When a line without a number asks to release.
-pub(crate) fn release_in(alloc: Global, line: Vec<u8>) -> Result<u64, LineFault>
+/// When a line asks to release.
+fn release_in(alloc: Global, line: Vec<u8>) -> Result<u64, LineFault>
     ensures { MatchResult result (λ now. Asks line.items (Request.Release now)) (IsNoRelease line.items) }
 {
     let Some(_) = behind(&line, b"release ") else {
@@ -55,6 +69,25 @@ pub(crate) fn release_in(alloc: Global, line: Vec<u8>) -> Result<u64, LineFault>
             Some(now) => Ok(now),
             None => Err(LineFault::NoLine),
         },
+        Err(why) => Err(why),
+    }
+}
+
+/// What a line without a number asks of a host. The digits of a state are decoded in the line's memory.
+pub(crate) fn asked_of_host(alloc: Global, line: Vec<u8>) -> Result<HostRequest, LineFault>
+    ensures { MatchResult result (AsksHost line.items) (AsksNoHost line.items) }
+{
+    if line.as_slice() == b"state".as_slice() {
+        return Ok(HostRequest::State);
+    }
+    if line.as_slice() == b"again".as_slice() {
+        return Ok(HostRequest::Again);
+    }
+    if let Some(place) = behind(&line, b"join ") {
+        return Ok(HostRequest::Join(Bytes::new(bytes_from(line, place)?)));
+    }
+    match release_in(alloc, line) {
+        Ok(now) => Ok(HostRequest::Release(now)),
         Err(why) => Err(why),
     }
 }

@@ -5,10 +5,12 @@ ghost use Rattle.hex.specs.Hex.{encode_lower};
 ghost use Rattle.ballots.specs.declared.letters.Letter.{Letter};
 ghost use Rattle.letter_bytes.specs.Spelling.{spelling};
 ghost use Rattle.node_lines.specs.Lines.{letter_word, longest_line};
+ghost use Rattle.host_service.specs.Asking.{join_word};
 ghost use Rattle.host_service.specs.Longest.{IsPromiseWithin};
 ghost use Rattle.host_service.specs.Numbers.{IsNumbered, number_text};
 ghost use Rattle.host_service.specs.declared.number.EpochNumber.{EpochNumber as Number};
 
+use crate::reply::LONGEST_STATE;
 use hosts::MOST_EPOCH_PLACES;
 
 /// A line has one number before it at most, and one rest behind that.
@@ -20,4 +22,9 @@ pub fn one_number()
 pub fn no_promise_is_longer()
     ensures { (n : Number) (l : Letter) → n.epoch < 2 ^ 64 → n.places ≤ MOST_EPOCH_PLACES → IsPromiseWithin n.places l
         → length (number_text n ++ (letter_word ++ encode_lower (spelling l))) ≤ longest_line }
+{}
+
+/// No state that is told needs a longer line to join by it than `node_lines::LONGEST_LINE`.
+pub fn no_state_is_longer()
+    ensures { (bytes : List ℕ) → length bytes ≤ LONGEST_STATE → length (join_word ++ encode_lower bytes) ≤ longest_line }
 {}

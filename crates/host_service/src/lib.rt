@@ -8,7 +8,8 @@ mod reply;
 mod service;
 mod texts;
 
-pub use laws::{no_promise_is_longer, one_number};
+pub use asked::HostRequest;
+pub use laws::{no_promise_is_longer, no_state_is_longer, one_number};
 pub use number::{EpochNumber, number_in};
-pub use reply::HostReply;
+pub use reply::{HostReply, LONGEST_STATE};
 pub use service::{HostServer, serve_host};

@@ -1,13 +1,19 @@
 //! What a host replies.
 
 ghost use Rattle.std.specs.Prelude.{◌≡◌};
-ghost use Rattle.host_service.specs.Replying.{reply_of};
+ghost use Rattle.host_service.specs.Replying.{again_reply, fault_reply, join_reply, reply_of, state_reply};
 
 use crate::number::EpochNumber;
-use ballots::{Members, NodeId};
-use hosts::{Given, HostActed};
+use ballots::{Bytes, Members, NodeId};
+use grant_machine::Output;
+use hosts::{Given, HostActed, JoinFault};
+use node::NodeFault;
 use node_service::Reply;
 use seats::Acted;
+use std::alloc::AllocError;
+
+/// The most bytes of a state that is told: a line that joins by it is no longer than a line of a node may be.
+pub const LONGEST_STATE: usize = 88_000_000;
 
 /// What is told at one time: the reply to a line, or before the first one who replies.
 #[derive(Drop)]
@@ -18,8 +24,25 @@ pub enum HostReply {
     InEpoch(EpochNumber, HostActed),
     /// The outputs of a release, as a node tells them; the host's own epoch, and the first place of it that it lacks.
     Released(Reply, EpochNumber, u64),
-    /// What a node tells as well: why the line asked nothing, or the fault of a release.
+    /// The state at the start of the host's own epoch.
+    State(Bytes),
+    /// That state has more than `LONGEST_STATE` bytes, and isn't told.
+    StateTooLong,
+    /// The host went to the start of this epoch, which is its own one now.
+    Joined(u64),
+    /// The bytes are no state to which it goes. Nothing changed.
+    NoState,
+    /// What modems need that begin anew.
+    Again(Vec<Output>),
+    /// What a node tells as well: why the line asked nothing, or the fault of what it asked.
     AsNode(Reply),
+}
+
+/// The reply that tells a fault.
+fn fault_reply(fault: NodeFault) -> HostReply
+    ensures { result ≡ fault_reply fault }
+{
+    HostReply::AsNode(Reply::Acted(Acted::Fault(fault)))
 }
 
 /// The reply to a release of a host with so many places in an epoch.
@@ -36,6 +59,43 @@ pub(crate) fn reply_of(places: u64, given: Given) -> HostReply
             EpochNumber { epoch, places },
             place,
         ),
-        Given::Failed(fault) => HostReply::AsNode(Reply::Acted(Acted::Fault(fault))),
+        Given::Failed(fault) => fault_reply(fault),
+    }
+}
+
+/// The reply of a host that was asked for its state.
+pub(crate) fn state_reply(state: Result<Vec<u8>, AllocError>) -> HostReply
+    ensures { result ≡ state_reply state }
+{
+    match state {
+        Ok(bytes) => {
+            if bytes.len() <= LONGEST_STATE {
+                HostReply::State(Bytes::new(bytes))
+            } else {
+                HostReply::StateTooLong
+            }
+        }
+        Err(_) => fault_reply(NodeFault::OutOfMemory),
+    }
+}
+
+/// The reply of a host that was given a state, and whose own epoch is this one then.
+pub(crate) fn join_reply(epoch: u64, joined: Result<(), JoinFault>) -> HostReply
+    ensures { result ≡ join_reply epoch joined }
+{
+    match joined {
+        Ok(()) => HostReply::Joined(epoch),
+        Err(JoinFault::NoState) => HostReply::NoState,
+        Err(JoinFault::Node(fault)) => fault_reply(fault),
+    }
+}
+
+/// The reply of a host that was asked what it tells again.
+pub(crate) fn again_reply(outputs: Result<Vec<Output>, AllocError>) -> HostReply
+    ensures { result ≡ again_reply outputs }
+{
+    match outputs {
+        Ok(outputs) => HostReply::Again(outputs),
+        Err(_) => fault_reply(NodeFault::OutOfMemory),
     }
 }

@@ -5,13 +5,14 @@ ghost use Rattle.hosts.specs.Hosts.{AreMembers, StandsAs, are_up};
 ghost use Rattle.hosts.specs.Views.{HostView};
 ghost use Rattle.node_service.specs.Batched.{EndsBatchedBy};
 ghost use Rattle.node_service.specs.Seated.{asked_of};
-ghost use Rattle.host_service.specs.Replying.{ActsSo, RepliesAlone, RepliesIn, RepliesTo, host_keeper, host_of};
+ghost use Rattle.host_service.specs.Replying.{ActsSo, DoesAsked, DoesJoin, DoesRelease, RepliesAlone, RepliesIn};
+ghost use Rattle.host_service.specs.Replying.{RepliesTo, host_keeper, host_of};
 ghost use Rattle.host_service.specs.Serving.{NeverLies, ServesFrom};
 ghost use Rattle.host_service.specs.Texts.{host_text};
 
-use crate::asked::{asked_of_node, release_in, rest_of};
+use crate::asked::{HostRequest, asked_of_host, asked_of_node, rest_of};
 use crate::number::{EpochNumber, number_before};
-use crate::reply::{HostReply, reply_of};
+use crate::reply::{HostReply, again_reply, join_reply, reply_of, state_reply};
 use ballots::Bytes;
 use hosts::{Host, HostActed, Opens};
 use node_lines::{Ahead, LineFault, Request};
@@ -57,15 +58,40 @@ fn reply_in_epoch<O: Opens>(
     }
 }
 
+/// The reply to a time at which it is asked to release.
+fn reply_to_release<O: Opens>(host: &mut Host<O>, now: u64) -> HostReply
+    ensures { DoesRelease host.old now result host.new }
+{
+    let places = host.places();
+    reply_of(places, host.release(now))
+}
+
+/// The reply to a state that it is given.
+fn reply_to_join<O: Opens>(host: &mut Host<O>, state: &[u8]) -> HostReply
+    ensures { DoesJoin host.old state.now result host.new }
+{
+    let joined = host.join(state);
+    join_reply(host.number(), joined)
+}
+
+/// The reply to what a line without a number asks.
+fn reply_of_host<O: Opens>(host: &mut Host<O>, asked: HostRequest) -> HostReply
+    ensures { DoesAsked host.old asked result host.new }
+{
+    match asked {
+        HostRequest::Release(now) => reply_to_release(host, now),
+        HostRequest::State => state_reply(host.state()),
+        HostRequest::Join(state) => reply_to_join(host, state.as_slice()),
+        HostRequest::Again => again_reply(host.again()),
+    }
+}
+
 /// The reply to a line without a number.
 fn reply_alone<O: Opens>(alloc: Global, host: &mut Host<O>, line: Vec<u8>) -> HostReply
     ensures { RepliesAlone host.old line.items result host.new }
 {
-    match release_in(alloc, line) {
-        Ok(now) => {
-            let places = host.places();
-            reply_of(places, host.release(now))
-        }
+    match asked_of_host(alloc, line) {
+        Ok(asked) => reply_of_host(host, asked),
         Err(why) => HostReply::AsNode(Reply::Refused(why)),
     }
 }

@@ -6,15 +6,19 @@ ghost use Rattle.node_service.specs.Texts.{head_text, reply_text};
 ghost use Rattle.seats.specs.Acted.{letters_of};
 ghost use Rattle.host_service.specs.Numbers.{number_text};
 ghost use Rattle.host_service.specs.Texts.{acted_text_in, ended_text, host_text, in_epoch_text, next_text};
-ghost use Rattle.host_service.specs.Texts.{numbered_letter, numbered_letters, there_text};
+ghost use Rattle.host_service.specs.Texts.{again_head, again_text, joined_text, numbered_letter, numbered_letters};
+ghost use Rattle.host_service.specs.Texts.{no_state_text, output_line, output_lines, state_text, there_text};
+ghost use Rattle.host_service.specs.Texts.{too_long_text};
 
 use crate::number::EpochNumber;
 use crate::reply::HostReply;
 use ballots::{Letter, Members, NodeId};
+use grant_machine::Output;
 use hosts::HostActed;
 use node_lines::{Unwritten, write_letters};
 use node_service::{Reply, Told};
 use printed_answers::answer_text;
+use printed_outputs::output_text;
 use seats::{Acted, Answer};
 use std::alloc::Global;
 use std::io::Write;
@@ -158,6 +162,76 @@ fn write_there<W: Write>(
     Ok(())
 }
 
+/// A state's bytes, in digits.
+fn write_state<W: Write>(alloc: Global, state: &[u8], output: &mut W) -> Result<(), Unwritten>
+    ensures { OnOk result (Appends (W.contents output.old) (W.contents output.new) (state_text state.now)) }
+{
+    let Ok(digits) = hex::encode(alloc, state) else {
+        return Err(Unwritten::OutOfMemory);
+    };
+    writeln!(output, "state {digits}")?;
+    Ok(())
+}
+
+fn write_too_long<W: Write>(output: &mut W) -> Result<(), Unwritten>
+    ensures { OnOk result (Appends (W.contents output.old) (W.contents output.new) too_long_text) }
+{
+    writeln!(output, "fault 9 StateTooLong")?;
+    Ok(())
+}
+
+fn write_no_state<W: Write>(output: &mut W) -> Result<(), Unwritten>
+    ensures { OnOk result (Appends (W.contents output.old) (W.contents output.new) no_state_text) }
+{
+    writeln!(output, "error 11 NoState")?;
+    Ok(())
+}
+
+fn write_joined<W: Write>(epoch: u64, output: &mut W) -> Result<(), Unwritten>
+    ensures { OnOk result (Appends (W.contents output.old) (W.contents output.new) (joined_text epoch)) }
+{
+    writeln!(output, "joined {epoch}")?;
+    Ok(())
+}
+
+fn write_output<W: Write>(alloc: Global, one: &Output, output: &mut W) -> Result<(), Unwritten>
+    ensures { OnOk result (Appends (W.contents output.old) (W.contents output.new) (output_line one.now)) }
+{
+    let Ok(text) = output_text(alloc, one) else {
+        return Err(Unwritten::OutOfMemory);
+    };
+    writeln!(output, "{text}")?;
+    Ok(())
+}
+
+fn write_outputs<W: Write>(
+    alloc: Global,
+    outputs: &[Output],
+    output: &mut W,
+) -> Result<(), Unwritten>
+    ensures { OnOk result (Appends (W.contents output.old) (W.contents output.new) (output_lines outputs.now)) }
+{
+    for one in outputs {
+        write_output(alloc, one, output)?;
+    }
+    Ok(())
+}
+
+fn write_count<W: Write>(count: usize, output: &mut W) -> Result<(), Unwritten>
+    ensures { OnOk result (Appends (W.contents output.old) (W.contents output.new) (again_head count)) }
+{
+    writeln!(output, "again {count}")?;
+    Ok(())
+}
+
+/// What modems need that begin anew, an output a line.
+fn write_again<W: Write>(alloc: Global, outputs: &[Output], output: &mut W) -> Result<(), Unwritten>
+    ensures { OnOk result (Appends (W.contents output.old) (W.contents output.new) (again_text outputs.now)) }
+{
+    write_count(outputs.len(), output)?;
+    write_outputs(alloc, outputs, output)
+}
+
 fn write_text<W: Write>(alloc: Global, reply: &HostReply, output: &mut W) -> Result<(), Unwritten>
     ensures { OnOk result (Appends (W.contents output.old) (W.contents output.new) (host_text reply.now)) }
 {
@@ -167,6 +241,11 @@ fn write_text<W: Write>(alloc: Global, reply: &HostReply, output: &mut W) -> Res
         HostReply::Released(told, next, place) => {
             write_released(alloc, told, *next, *place, output)
         }
+        HostReply::State(state) => write_state(alloc, state.as_slice(), output),
+        HostReply::StateTooLong => write_too_long(output),
+        HostReply::Joined(epoch) => write_joined(*epoch, output),
+        HostReply::NoState => write_no_state(output),
+        HostReply::Again(outputs) => write_again(alloc, outputs, output),
         HostReply::AsNode(told) => told.write_to(alloc, output),
     }
 }

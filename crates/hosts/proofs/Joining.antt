@@ -1,5 +1,6 @@
 -- A host that goes to the start of an epoch above its own, as it stands.
-use Rattle.std.proofs.Common.{◌≡◌, ◌≢◌, ◌∙◌, ℕ, zero, suc, ◌+◌, ◌*◌, ◌<◌, ◌≤◌, Option, None, Bool, true, false, cond, leb, ltb, List, [], ◌∷◌, ◌++◌, length}
+use Rattle.std.proofs.Common.{◌≡◌, ◌≢◌, ◌∙◌, ℕ, zero, suc, ◌+◌, ◌*◌, ◌<◌, ◌≤◌, Option, None, Bool, true, false, cond}
+use Rattle.std.proofs.Common.{leb, ltb, List, [], ◌∷◌, ◌++◌, length}
 use Rattle.std.proofs.Common.{refl, sym, ap, subst, inl, inr, le-leb, arith}
 use Rattle.std.specs.Prelude.{IfErr, IsTrue, OnOk, Result, Ok, Err, is_some}
 use Rattle.std.proofs.Math.Nat.{le-mul_of_pos_right, suc-mul}

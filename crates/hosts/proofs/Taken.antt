@@ -22,7 +22,8 @@ use Rattle.hosts.specs.Shifting.{GivesOut, KeepsNodes, KeepsStates, SaysNext, Ta
 use Rattle.hosts.specs.Slots.{slot}
 use Rattle.hosts.specs.States.{AreStates, StatesView}
 use Rattle.hosts.specs.Taking.{IsAllOf}
-use Rattle.hosts.specs.Views.{Gives, HostView, IsAll, TakesUp, TellsAgain, all_given, learned_at, number, values, with_more}
+use Rattle.hosts.specs.Views.{Gives, HostView, IsAll, TakesUp, TellsAgain, all_given, learned_at, number, values}
+use Rattle.hosts.specs.Views.{with_more}
 use Rattle.hosts.specs.declared.acted.Given.{Given}
 use Rattle.hosts.specs.declared.acted.Given.TheVariants.{Outputs, Failed}
 use Rattle.hosts.specs.declared.host.Host.{Host}

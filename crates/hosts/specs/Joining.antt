@@ -21,10 +21,11 @@ use Rattle.hosts.specs.declared.fault.JoinFault.TheVariants.{NoState, Node}
 use Rattle.hosts.specs.declared.host.Host.{Host}
 use Rattle.hosts.specs.declared.opens.Opens.{Ghosts}
 
--- a host can go on from such a state: it is of as many members and places and of an epoch above its own, behind as many
--- outputs as the epochs before it have places, and those of the epoch can be numbered
+-- a host can go on from such a state: one of as many members tells it, it is of as many places and of an epoch above its
+-- own, behind as many outputs as the epochs before it have places, and those of the epoch can be numbered
 pub record CanJoin {O N : Type 0} {g : Ghosts O N} {h : Nodes N} (host : Host O N g h) (head : StateHead) : Type 0 where
   pub members : head.members ≡ (member_of host).1
+  pub teller : head.id < head.members
   pub places : head.places ≡ places_of host
   pub above : number_of host < head.epoch
   pub counts : head.before + head.places ≡ head.epoch * head.places

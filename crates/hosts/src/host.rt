@@ -63,7 +63,7 @@ impl<O: Opens> Host<O> {
     ghost use Rattle.proposer.specs.declared.fault.NodeFault.TheVariants.{OutOfMemory};
     ghost use Rattle.hosts.specs.Taking.{IsAllOf};
     ghost use Rattle.hosts.specs.Hosts.{AreMembers, IsHonest, KeepsTrust, SameHost, StandsAs, are_up, member_of};
-    ghost use Rattle.hosts.specs.Hosts.{has_before as has_before_lem, places_of};
+    ghost use Rattle.hosts.specs.Hosts.{has_before as has_before_lem, number_of, places_of};
     ghost use Rattle.hosts.specs.Views.{HostView, MovesIn, Releases, TellsAgain, opening};
 
     /// A host that has done nothing, of so many places in an epoch, 1 to 999,000.
@@ -116,6 +116,13 @@ impl<O: Opens> Host<O> {
         ensures { result ≡ places_of self.now }
     {
         self.places
+    }
+
+    /// The number of its epoch, from 1.
+    pub fn number(&self) -> u64
+        ensures { result ≡ number_of self.now }
+    {
+        self.number
     }
 
     /// Whether each of its nodes is up.
@@ -331,8 +338,10 @@ impl<O: Opens> Host<O> {
         told_again(self.alloc, self.scheduler.machine())
     }
 
-    /// Goes to the start of the epoch of a state that a host has told, which has to be above its own one: it has the tables
-    /// of the state, and takes no part any more in epochs before the one before that one. Where it fails nothing changes.
+    /// Goes to the start of the epoch of a state that a host has told, itself or another one, which has to be above its own
+    /// one: it has the tables of the state, and takes no part any more in epochs before the one before that one. Of the
+    /// outputs before the state it gives none any more, also of those that it took up; another host gives them. Where it
+    /// fails nothing changes.
     pub fn join(&mut self, state: &[u8]) -> Result<(), JoinFault>
         ensures joins { OnOk result (Joins self.old state.now self.new) }
         ensures stays { IfErr result (λ fault. StaysFor self.old state.now fault self.new) }
@@ -373,6 +382,7 @@ impl<O: Opens> Host<O> {
         ensures { IsTrue result ↔ CanJoin self.now head.now }
     {
         head.members == self.states.members()
+            && head.id < head.members
             && head.places == self.places
             && self.number < head.epoch
             && self.places < u64::MAX - head.before

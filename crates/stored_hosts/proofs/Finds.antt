@@ -6,7 +6,8 @@ use Rattle.host_states.specs.declared.head.StateHead.{StateHead}
 use Rattle.stored_hosts.specs.Finding.{Counts, Finds, IsBest, IsOther}
 use Rattle.stored_hosts.specs.Surveying.{AreRead, Surveys}
 use Rattle.stored_hosts.specs.declared.fault.FolderFault.{FolderFault}
-use Rattle.stored_hosts.specs.declared.fault.FolderFault.TheVariants.{NoStore, OtherNode, OtherMembers, OtherPlaces, Damaged, Refused, OutOfMemory}
+use Rattle.stored_hosts.specs.declared.fault.FolderFault.TheVariants.{NoStore, OtherNode, OtherMembers, OtherPlaces}
+use Rattle.stored_hosts.specs.declared.fault.FolderFault.TheVariants.{Damaged, Refused, OutOfMemory}
 use Rattle.stored_hosts.specs.declared.finding.Found.{Found}
 use Rattle.stored_hosts.specs.declared.finding.Found.TheVariants.{Nothing, Whole}
 use Rattle.stored_hosts.specs.declared.finding.StateFile.{StateFile}

@@ -1,11 +1,13 @@
 -- Which state of a folder counts, and what a start finds there.
-use Rattle.std.specs.Prelude.{◌≡◌, ◌≢◌, ◌↔◌, ◌≤◌, ◌+◌, ◌-◌, ℕ, nat_lt, if◌then◌else◌, IsTrue, List, [], Option, None, Some, Result, Ok, Err, Contains, MatchOption, ⊤}
+use Rattle.std.specs.Prelude.{◌≡◌, ◌≢◌, ◌↔◌, ◌≤◌, ◌+◌, ◌-◌, ℕ, nat_lt, if◌then◌else◌, IsTrue, List, [], Option, None}
+use Rattle.std.specs.Prelude.{Some, Result, Ok, Err, Contains, MatchOption, ⊤}
 use Rattle.flow_state.specs.Rows.{Rows}
 use Rattle.host_states.specs.States.{IsState}
 use Rattle.host_states.specs.declared.head.StateHead.{StateHead}
 use Rattle.stored_hosts.specs.Committing.{file_of}
 use Rattle.stored_hosts.specs.declared.fault.FolderFault.{FolderFault}
-use Rattle.stored_hosts.specs.declared.fault.FolderFault.TheVariants.{NoStore, OtherNode, OtherMembers, OtherPlaces, Damaged, Refused, OutOfMemory}
+use Rattle.stored_hosts.specs.declared.fault.FolderFault.TheVariants.{NoStore, OtherNode, OtherMembers, OtherPlaces}
+use Rattle.stored_hosts.specs.declared.fault.FolderFault.TheVariants.{Damaged, Refused, OutOfMemory}
 use Rattle.stored_hosts.specs.declared.finding.Found.{Found}
 use Rattle.stored_hosts.specs.declared.finding.Found.TheVariants.{Nothing, Whole}
 use Rattle.stored_hosts.specs.declared.finding.StateFile.{StateFile}
