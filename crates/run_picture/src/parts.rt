@@ -7,7 +7,8 @@ ghost use Rattle.run_picture.specs.Arrows.{delivered, heard};
 ghost use Rattle.run_picture.specs.Roles.{comes_right, sight_told};
 ghost use Rattle.run_picture.specs.Parts.{lanes, event_lane, event_x, rule, number_words, happening, answer_class};
 ghost use Rattle.run_picture.specs.Parts.{answered};
-ghost use Rattle.run_picture.specs.Parts.{mark, arrow, hearing_from, hearing, label_on, label, part_below, part_of, part_at};
+ghost use Rattle.run_picture.specs.Parts.{mark, arrow, hearing_from, hearing, label_on, label, part_below, part_of};
+ghost use Rattle.run_picture.specs.Parts.{part_at};
 ghost use Rattle.run_picture.specs.Parts.{stub_below, stub_from, stub_past, stub_unless, stub_at};
 ghost use Rattle.watched_runs.specs.Shown.{shown};
 

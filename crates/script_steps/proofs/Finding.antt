@@ -1,6 +1,8 @@
 -- The first letter that waits, behind those that were passed over.
-use Rattle.std.proofs.Common.{◌≡◌, ℕ, zero, suc, ◌+◌, ◌-◌, ◌<◌, ◌≤◌, ◌⊎◌, inl, inr, Bool, true, false, cond, not, ◌&&◌, ◌||◌, ◌==◌}
-use Rattle.std.proofs.Common.{List, [], ◌∷◌, ◌++◌, Option, Some, None, Result, Ok, Err, OnOk, OnErr, filter, find, if◌then◌else◌, nat_lt}
+use Rattle.std.proofs.Common.{◌≡◌, ℕ, zero, suc, ◌+◌, ◌-◌, ◌<◌, ◌≤◌, ◌⊎◌, inl, inr, Bool, true, false, cond, not}
+use Rattle.std.proofs.Common.{◌&&◌, ◌||◌, ◌==◌}
+use Rattle.std.proofs.Common.{List, [], ◌∷◌, ◌++◌, Option, Some, None, Result, Ok, Err, OnOk, OnErr, filter, find}
+use Rattle.std.proofs.Common.{if◌then◌else◌, nat_lt}
 use Rattle.std.proofs.Common.{length, drop, map, set, slice_get, unwrap_or, get_or}
 use Rattle.std.proofs.Common.{refl, sym, ap, subst, ◌∙◌, arith}
 use Rattle.std.specs.List.{All, list_any, range_with_len}
@@ -14,7 +16,8 @@ use Rattle.script_steps.specs.declared.name.Name.{Name}
 use Rattle.script_steps.specs.declared.name.Parts.{Parts}
 use Rattle.script_steps.specs.declared.kept.Passed.{Passed}
 use Rattle.script_steps.specs.declared.kept.Sent.{Sent}
-use Rattle.script_steps.specs.Names.{about_of, fits_at, fits_part, ballot_of, place_of, has_come, has_parts, parts_of, waiting}
+use Rattle.script_steps.specs.Names.{about_of, fits_at, fits_part, ballot_of, place_of, has_come, has_parts, parts_of}
+use Rattle.script_steps.specs.Names.{waiting}
 use Rattle.script_steps.specs.Came.{comes, sends}
 use Rattle.script_steps.specs.Kept.{AreKept, IsPassed, waits, waits_and_fits, waits_at}
 

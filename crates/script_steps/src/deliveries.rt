@@ -4,11 +4,12 @@ ghost use Rattle.std.specs.Prelude.{◌≡◌, ◌-◌, find, length, map, rever
 ghost use Rattle.std.specs.List.{range_with_len};
 ghost use Rattle.script_steps.specs.Kept.{AreKept, AreListed, waits_and_fits};
 ghost use Rattle.script_steps.specs.Names.{about_of, fits_at, named, waiting};
+ghost use Rattle.script_steps.specs.Plain.{waiting_but};
 ghost use Rattle.script_steps.specs.Came.{comes, sends};
 
 use crate::kept::{Passed, Sent, add_sent, fits_at, pass_over};
 use crate::name::Name;
-use crate::waiting::{add_numbers, first_listed, is_waiting, take_out};
+use crate::waiting::{add_numbers, first_listed, is_waiting, take_out, without};
 use ballots::Letter;
 use std::alloc::{AllocError, Global};
 use std::marker::Model;
@@ -145,5 +146,25 @@ impl Deliveries {
             return self.waits_listed(alloc, name, letters);
         }
         self.waits_behind(name, letters)
+    }
+
+    /// The numbers of the letters that haven't come and have all of none of these names, of letters that were all
+    /// counted as sent.
+    pub fn waiting_but(
+        &mut self,
+        alloc: Global,
+        except: &[Name],
+        letters: &[Letter],
+    ) -> Result<Vec<usize>, AllocError>
+        ensures same { self.new ≡ self.old }
+        ensures waiting { IfOk result (λ numbers. self.old.sent ≡ map about_of letters.now
+            → numbers.items ≡ waiting_but except.now letters.now self.old.came) }
+    {
+        add_numbers(alloc, &mut self.waiting, self.counted, self.sent.len())?;
+        self.counted = self.sent.len();
+        take_out(&mut self.waiting, self.sent.as_slice());
+        self.taken = self.came.len();
+        let left = without(alloc, self.waiting.as_slice(), except, letters)?;
+        Ok(left)
     }
 }

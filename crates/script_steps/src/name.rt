@@ -1,10 +1,12 @@
 //! The name of a letter: what is known of it.
 
-ghost use Rattle.std.specs.Prelude.{◌≡◌, true};
+ghost use Rattle.std.specs.Prelude.{◌≡◌, ◌++◌, ◌∷◌, [], true, OnOk, OnErr};
 ghost use Rattle.script_steps.specs.Names.{about_of, ballot_of, fits, fits_kind, fits_part, has_parts, is_same_kind};
 ghost use Rattle.script_steps.specs.Names.{kind_of, parts_of, place_of};
 
 use ballots::{Letter, NodeId, Note};
+use std::alloc::{AllocError, Global};
+use std::marker::Model;
 
 /// What a letter may say, without what it says it of.
 #[derive(Clone, Copy, Debug, PartialEq, Eq, Drop)]
@@ -196,5 +198,63 @@ impl Name {
         self.parts().has(&about_of(letter))
             && is_number(self.ballot, ballot_of(&letter.note))
             && is_number(self.place, place_of(&letter.note))
+    }
+}
+
+/// Letters that come, a round at a time: each round those that were there as it began, and haven't come.
+#[derive(Drop)]
+pub struct DeliverAll {
+    /// Letters that have all that one of these names stay.
+    except: Vec<Name>,
+    rounds: usize,
+}
+
+impl Model for DeliverAll {
+    ghost use Rattle.script_steps.specs.Sweep.{Sweep};
+
+    ghost Value = { Sweep };
+
+    ghost view = { λ all. record { except = all.except.items; rounds = all.rounds } };
+}
+
+impl DeliverAll {
+    /// So many rounds, in which no letter stays.
+    pub fn new(alloc: Global, rounds: usize) -> DeliverAll
+        ensures { result ≡ record { except = []; rounds = rounds } }
+    {
+        DeliverAll {
+            except: Vec::new(alloc),
+            rounds,
+        }
+    }
+
+    /// Letters that have all that this names stay, too.
+    pub fn leave(&mut self, name: &Name) -> Result<(), AllocError>
+        ensures ok { OnOk result (self.new ≡ record { except = self.old.except ++ name.now ∷ []; rounds = self.old.rounds }) }
+        ensures err { OnErr result (self.new ≡ self.old) }
+    {
+        let from: Option<NodeId> = name.from;
+        let kind: Option<Kind> = name.kind;
+        let name = Name {
+            from,
+            kind,
+            ..*name
+        };
+        self.except.push(name)?;
+        Ok(())
+    }
+
+    /// The letters that stay.
+    pub fn except(&self) -> &[Name]
+        ensures { result.now ≡ self.now.except }
+    {
+        self.except.as_slice()
+    }
+
+    /// How many rounds there are.
+    pub fn rounds(&self) -> usize
+        ensures { result ≡ self.now.rounds }
+    {
+        self.rounds
     }
 }

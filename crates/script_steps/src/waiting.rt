@@ -1,9 +1,10 @@
 //! The numbers of letters that wait, one after another.
 
-ghost use Rattle.std.specs.Prelude.{◌≡◌, ◌-◌, ◌++◌, filter, find, slice_get, IfOk, OnOk, OnErr};
+ghost use Rattle.std.specs.Prelude.{◌≡◌, ◌-◌, ◌++◌, filter, find, not, slice_get, IfOk, OnOk, OnErr};
 ghost use Rattle.std.specs.List.{range_with_len};
 ghost use Rattle.script_steps.specs.Kept.{is_waiting};
 ghost use Rattle.script_steps.specs.Names.{fits_at};
+ghost use Rattle.script_steps.specs.Plain.{fits_any};
 
 use crate::kept::{Sent, fits_at};
 use crate::name::Name;
@@ -60,4 +61,25 @@ pub(crate) fn first_listed(numbers: &[usize], name: &Name, letters: &[Letter]) -
         .iter()
         .find(|i| fits_at(name, letters, **i))
         .copied()
+}
+
+/// Whether the letter of this number, if it was sent, has all that one of these names.
+fn fits_any(except: &[Name], letters: &[Letter], i: usize) -> bool
+    ensures { result ≡ fits_any except.now letters.now i }
+{
+    except.iter().any(|name| fits_at(name, letters, i))
+}
+
+/// Those of these letters that have all of none of these names.
+pub(crate) fn without(
+    alloc: Global,
+    numbers: &[usize],
+    except: &[Name],
+    letters: &[Letter],
+) -> Result<Vec<usize>, AllocError>
+    ensures { IfOk result (λ left. left.items ≡ filter (λ i. not (fits_any except.now letters.now i)) numbers.now) }
+{
+    let mut left = numbers.to_vec(alloc)?;
+    left.retain(|i| !fits_any(except, letters, *i));
+    Ok(left)
 }

@@ -9,7 +9,7 @@ use Rattle.script_text.specs.Items.{list_of}
 use Rattle.script_text.specs.Plan.{IsPlan, NoPlan}
 use Rattle.script_text.specs.Script.{IsScript, NoScript}
 use Rattle.script_text.specs.StepScript.{IsStepScript, NoSteps}
-use Rattle.script_steps.specs.declared.step.Step.{Step}
+use Rattle.script_steps.specs.declared.entry.Entry.{Entry}
 pub use Rattle.script_text.proofs.Pairs.{two_items}
 
 -- the items that a list makes are that list
@@ -34,14 +34,14 @@ script_known None text read count ids events same whole script = tt
 script_known (Some bytes) text read count ids events same whole script = rw (whole ∙ same) at script
 
 -- likewise of one whose deliveries may name their letters
-pub steps_known : (known : Option (List ℕ)) (text read : List ℕ) (count : Members) (ids : List ℕ) (steps : List Step) → IfSome known (λ bytes. text ≡ bytes) → read ≡ text → IsStepScript read count ids steps
-    → IfSome known (λ bytes. IsStepScript bytes count ids steps)
-steps_known None text read count ids steps same whole script = tt
-steps_known (Some bytes) text read count ids steps same whole script = rw (whole ∙ same) at script
+pub steps_known : (known : Option (List ℕ)) (text read : List ℕ) (count : Members) (ids : List ℕ) (entries : List Entry) → IfSome known (λ bytes. text ≡ bytes) → read ≡ text → IsStepScript read count ids entries
+    → IfSome known (λ bytes. IsStepScript bytes count ids entries)
+steps_known None text read count ids entries same whole script = tt
+steps_known (Some bytes) text read count ids entries same whole script = rw (whole ∙ same) at script
 
-pub no_steps_read : (known : Option (List ℕ)) (count : Members) (ids : List ℕ) (steps : List Step) → NoSteps known → IfSome known (λ text. IsStepScript text count ids steps) → ⊥
-no_steps_read None count ids steps none read = none
-no_steps_read (Some text) count ids steps none read = none count ids steps read
+pub no_steps_read : (known : Option (List ℕ)) (count : Members) (ids : List ℕ) (entries : List Entry) → NoSteps known → IfSome known (λ text. IsStepScript text count ids entries) → ⊥
+no_steps_read None count ids entries none read = none
+no_steps_read (Some text) count ids entries none read = none count ids entries read
 
 -- a text that is known to be no script is read as none
 pub no_script_read : (known : Option (List ℕ)) (count : Members) (ids : List ℕ) (events : List Event) → NoScript known → IfSome known (λ text. IsScript text count ids events) → ⊥

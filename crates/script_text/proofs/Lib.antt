@@ -10,3 +10,4 @@ mod Keys
 mod Reading
 mod Taken
 mod Steps
+mod Entries

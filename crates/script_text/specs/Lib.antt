@@ -5,4 +5,5 @@ pub mod EventTable
 pub mod Script
 pub mod Plan
 pub mod StepTable
+pub mod EntryTable
 pub mod StepScript

@@ -1,40 +1,42 @@
--- A script whose deliveries may name their letters: members, ids of modems, and steps, under keys of a TOML text.
+-- A script whose deliveries may name their letters, or be of all that wait: members, ids of modems, and entries, under
+-- keys of a TOML text.
 use Rattle.std.specs.Prelude.{◌≡◌, ℕ, List, Option, Some, None, codes, map}
 use Rattle.toml.specs.Data.{Members}
 use Rattle.toml.specs.Parse.{parse_document}
 use Rattle.ballots.specs.declared.members.Members.{Members as NodeCount}
 use Rattle.world_events.specs.declared.event.Event.{Event}
-use Rattle.script_steps.specs.declared.step.Step.{Step}
+use Rattle.script_steps.specs.declared.entry.Entry.{Entry}
+use Rattle.script_steps.specs.declared.entry.Entry.TheVariants.{One}
 use Rattle.script_steps.specs.declared.step.Step.TheVariants.{Plain}
 use Rattle.script_text.specs.declared.script.ScriptFault.{ScriptFault}
 use Rattle.script_text.specs.declared.script.ScriptFault.TheVariants.{NotToml, BadEvent, BadMembers, OutOfMemory}
 use Rattle.script_text.specs.Items.{items_at, tables_at, AllMean, IsBadIndex}
 use Rattle.script_text.specs.Script.{HasMembers, HasModems, IsScript, TellsWorld}
-use Rattle.script_text.specs.StepTable.{MeansStep}
+use Rattle.script_text.specs.EntryTable.{MeansEntry}
 
--- the steps of a table, and its bad position
-abbrev pub HasSteps : Members → List Step → Type 0
-HasSteps ms steps = AllMean MeansStep (items_at ms (codes "event")) steps
+-- the entries of a table, and its bad position
+abbrev pub HasSteps : Members → List Entry → Type 0
+HasSteps ms entries = AllMean MeansEntry (items_at ms (codes "event")) entries
 
 abbrev pub IsBadStepAt : Members → ℕ → Type 0
-IsBadStepAt ms position = IsBadIndex MeansStep (tables_at ms (codes "event")) position
+IsBadStepAt ms position = IsBadIndex MeansEntry (tables_at ms (codes "event")) position
 
--- the table is a script of these members, ids of modems and steps
-pub record IsStepTable (ms : Members) (count : NodeCount) (ids : List ℕ) (asked : List Step) : Type 0 where
+-- the table is a script of these members, ids of modems and entries
+pub record IsStepTable (ms : Members) (count : NodeCount) (ids : List ℕ) (asked : List Entry) : Type 0 where
   pub members : HasMembers ms count
   pub modems : HasModems ms ids
   pub steps : HasSteps ms asked
 
--- why a table is no such script: first its members and modems count, then its steps. Want of memory says nothing
+-- why a table is no such script: first its members and modems count, then its entries. Want of memory says nothing
 abbrev pub IsStepTableFault : Members → ScriptFault → Type 0
 IsStepTableFault ms NotToml = ⊥
 IsStepTableFault ms (BadEvent position) = TellsWorld ms × IsBadStepAt ms position
 IsStepTableFault ms BadMembers = ¬ TellsWorld ms
 IsStepTableFault ms OutOfMemory = Unit {0}
 
--- the text is a script of these members, ids of modems and steps
-abbrev pub IsStepScript : List ℕ → NodeCount → List ℕ → List Step → Type 0
-IsStepScript text count ids steps = (ms : Members) × (parse_document text ≡ Some ms) × IsStepTable ms count ids steps
+-- the text is a script of these members, ids of modems and entries
+abbrev pub IsStepScript : List ℕ → NodeCount → List ℕ → List Entry → Type 0
+IsStepScript text count ids entries = (ms : Members) × (parse_document text ≡ Some ms) × IsStepTable ms count ids entries
 
 -- why a text isn't read as such a script: it is no TOML, or its table is none. Want of memory says nothing
 abbrev pub IsStepFault : List ℕ → ScriptFault → Type 0
@@ -46,8 +48,8 @@ IsStepFault text OutOfMemory = Unit {0}
 -- the text is known to be no such script
 abbrev pub NoSteps : Option (List ℕ) → Type 0
 NoSteps None = ⊥
-NoSteps (Some text) = (count : NodeCount) (ids : List ℕ) (steps : List Step) → ¬ IsStepScript text count ids steps
+NoSteps (Some text) = (count : NodeCount) (ids : List ℕ) (entries : List Entry) → ¬ IsStepScript text count ids entries
 
--- a script of events is one of steps that are these events
+-- a script of events is one of entries that are these events
 abbrev pub EventsAreSteps : Type 0
-EventsAreSteps = (text : List ℕ) (count : NodeCount) (ids : List ℕ) (events : List Event) → IsScript text count ids events → IsStepScript text count ids (map Plain events)
+EventsAreSteps = (text : List ℕ) (count : NodeCount) (ids : List ℕ) (events : List Event) → IsScript text count ids events → IsStepScript text count ids (map (λ event. One (Plain event)) events)

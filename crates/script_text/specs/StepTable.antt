@@ -31,13 +31,16 @@ MayHave Has d key (Some x) = Has x
 abbrev pub HasAgain : Data → Bool → Type 0
 HasAgain d again = (get (codes "again") d ≡ Some (boolean again)) ⊎ IsDefault d (codes "again") false again
 
--- the parts of a name, each under its key
-pub record HasFields (d : Data) (name : Name) : Type 0 where
+-- the parts of a name, each under its key, and with them whether the letter comes again
+pub record HasParts (d : Data) (name : Name) : Type 0 where
   pub from : MayHave (HasNode d (codes "from")) d (codes "from") name.from
   pub to : MayHave (HasNode d (codes "to")) d (codes "to") name.to
   pub kind : MayHave (HasKind d) d (codes "note") name.kind
   pub ballot : MayHave (HasNumber d (codes "ballot") 64) d (codes "ballot") name.ballot
   pub place : MayHave (HasNumber d (codes "place") 64) d (codes "place") name.place
+
+pub record HasFields (d : Data) (name : Name) : Type 0 where
+  pub parts : HasParts d name
   pub again : HasAgain d name.again
 
 -- a name says from whom, to whom, or of what kind a letter is

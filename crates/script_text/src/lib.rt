@@ -2,6 +2,7 @@
 #![tactic(auto)]
 
 mod command_table;
+mod entry_table;
 mod event_table;
 mod fields;
 mod plan;

@@ -1,4 +1,4 @@
-//! A script whose deliveries may name their letters.
+//! A script whose deliveries may name their letters, or be of all that wait.
 
 ghost use Rattle.std.specs.Prelude.{◌≡◌, IfOk, IfErr, map};
 ghost use Rattle.std.specs.List.{AllZip};
@@ -7,13 +7,13 @@ ghost use Rattle.script_text.specs.Items.{IsFirstBad};
 ghost use Rattle.script_text.specs.Script.{IsFaultAt};
 ghost use Rattle.script_text.specs.StepScript.{EventsAreSteps, HasSteps, IsBadStepAt, IsStepFault, IsStepScript};
 ghost use Rattle.script_text.specs.StepScript.{IsStepTable, IsStepTableFault};
-ghost use Rattle.script_text.specs.StepTable.{MeansStep};
+ghost use Rattle.script_text.specs.EntryTable.{MeansEntry};
 
+use crate::entry_table::entry_of;
 use crate::fields::tables_at;
 use crate::script::{ScriptFault, members_of, read_modems};
-use crate::step_table::step_of;
 use ballots::Members;
-use script_steps::Step;
+use script_steps::Entry;
 use std::alloc::Global;
 use toml::{Table, Value};
 
@@ -23,26 +23,27 @@ pub struct StepScript {
     pub members: Members,
     /// The ids of the modems.
     pub modems: Vec<u32>,
-    pub steps: Vec<Step>,
+    /// Its events, from 0 on.
+    pub steps: Vec<Entry>,
 }
 
-fn read_items(alloc: Global, items: &[Value]) -> Result<Vec<Step>, ScriptFault>
-    ensures read { IfOk result (λ steps. AllZip MeansStep (map view items.now) steps.items) }
-    ensures fault { IfErr result (IsFaultAt (IsFirstBad MeansStep (map view items.now))) }
+fn read_items(alloc: Global, items: &[Value]) -> Result<Vec<Entry>, ScriptFault>
+    ensures read { IfOk result (λ entries. AllZip MeansEntry (map view items.now) entries.items) }
+    ensures fault { IfErr result (IsFaultAt (IsFirstBad MeansEntry (map view items.now))) }
 {
-    let mut steps = Vec::new(alloc);
+    let mut entries = Vec::new(alloc);
     for (i, item) in items.iter().enumerate() {
-        match step_of(alloc, item) {
-            Ok(Some(step)) => steps.push(step)?,
+        match entry_of(alloc, item) {
+            Ok(Some(entry)) => entries.push(entry)?,
             Ok(None) => return Err(ScriptFault::BadEvent(i)),
             Err(_) => return Err(ScriptFault::OutOfMemory),
         }
     }
-    Ok(steps)
+    Ok(entries)
 }
 
-fn read_array(alloc: Global, table: &Table) -> Result<Vec<Step>, ScriptFault>
-    ensures read { IfOk result (λ steps. HasSteps (table_view table.now) steps.items) }
+fn read_array(alloc: Global, table: &Table) -> Result<Vec<Entry>, ScriptFault>
+    ensures read { IfOk result (λ entries. HasSteps (table_view table.now) entries.items) }
     ensures fault { IfErr result (IsFaultAt (IsBadStepAt (table_view table.now))) }
 {
     match tables_at(table, "event") {
@@ -67,7 +68,8 @@ fn read_table(alloc: Global, table: &Table) -> Result<StepScript, ScriptFault>
     })
 }
 
-/// Reads a script whose deliveries may name their letters. Its members and modems are looked at before its events.
+/// Reads a script whose deliveries may name their letters, or be of all that wait. Its members and modems are looked at
+/// before its events.
 pub fn read_steps(alloc: Global, text: &str) -> Result<StepScript, ScriptFault>
     ensures read { IfOk result (λ script. IsStepScript text.now script.members script.modems.items script.steps.items) }
     ensures fault { IfErr result (IsStepFault text.now) }
@@ -79,7 +81,7 @@ pub fn read_steps(alloc: Global, text: &str) -> Result<StepScript, ScriptFault>
     }
 }
 
-/// A script of events is one of steps that are these events.
+/// A script of events is one of entries that are these events.
 pub fn events_are_steps()
     ensures { EventsAreSteps }
 {}

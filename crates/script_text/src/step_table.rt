@@ -6,9 +6,10 @@ ghost use Rattle.toml.specs.View.{view};
 ghost use Rattle.script_steps.specs.declared.name.Kind.{Kind};
 ghost use Rattle.script_steps.specs.declared.name.Name.{Name};
 ghost use Rattle.script_steps.specs.declared.step.Step.{Step};
+ghost use Rattle.script_text.specs.EntryTable.{IsExcept, says_any};
 ghost use Rattle.script_text.specs.Fields.{HasNode, HasNumber, HasText};
-ghost use Rattle.script_text.specs.StepTable.{HasAgain, HasFields, HasKind, HasName, MayHave, MeansStep};
-ghost use Rattle.script_text.specs.StepTable.{NamesNone, kind_word, says_whose};
+ghost use Rattle.script_text.specs.StepTable.{HasAgain, HasFields, HasKind, HasName, HasParts, MayHave};
+ghost use Rattle.script_text.specs.StepTable.{MeansStep, NamesNone, kind_word, says_whose};
 
 use crate::event_table::event_of;
 use crate::fields::{node_at, u64_at};
@@ -84,9 +85,10 @@ fn again_of(table: &Value) -> Option<bool>
     }
 }
 
-fn fields_of(table: &Value) -> Option<Name>
-    ensures found { IfSome result (HasFields (view table.now)) }
-    ensures only { (name : Name) → HasFields (view table.now) name → result ≡ Some name }
+/// What a table says of a letter that comes, or comes again.
+pub(crate) fn parts_of(table: &Value, again: bool) -> Option<Name>
+    ensures found { IfSome result (λ name. HasParts (view table.now) name × (name.again ≡ again)) }
+    ensures only { (name : Name) → HasParts (view table.now) name → name.again ≡ again → result ≡ Some name }
 {
     Some(Name {
         from: node_part(table, "from")?,
@@ -94,8 +96,36 @@ fn fields_of(table: &Value) -> Option<Name>
         kind: kind_part(table)?,
         ballot: number_part(table, "ballot")?,
         place: number_part(table, "place")?,
-        again: again_of(table)?,
+        again,
     })
+}
+
+fn fields_of(table: &Value) -> Option<Name>
+    ensures found { IfSome result (HasFields (view table.now)) }
+    ensures only { (name : Name) → HasFields (view table.now) name → result ≡ Some name }
+{
+    let again = again_of(table)?;
+    parts_of(table, again)
+}
+
+/// Whether a name says something of a letter.
+fn says_any(name: &Name) -> bool
+    ensures { result ≡ says_any name.now }
+{
+    name.from.is_some()
+        || name.to.is_some()
+        || name.kind.is_some()
+        || name.ballot.is_some()
+        || name.place.is_some()
+}
+
+/// The letters that a table excepts.
+pub(crate) fn except_of(table: &Value) -> Option<Name>
+    ensures found { IfSome result (IsExcept (view table.now)) }
+    ensures only { (name : Name) → IsExcept (view table.now) name → result ≡ Some name }
+{
+    let name = parts_of(table, false)?;
+    if says_any(&name) { Some(name) } else { None }
 }
 
 /// Whether a name says more than a ballot or a place.

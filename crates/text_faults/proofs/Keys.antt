@@ -196,7 +196,7 @@ no_phy_or_tdma_fault place kind d Advanced (inl text) = rw text refl
 no_phy_or_tdma_fault place kind d p (inr none) = rw (none.0) refl
 
 -- two numbers of a byte each
-both_true : (a b : Bool) → (a && b) ≡ true → (a ≡ true) × (b ≡ true)
+pub both_true : (a b : Bool) → (a && b) ≡ true → (a ≡ true) × (b ≡ true)
 both_true true b h = (refl, h)
 both_true false b h = absurd (cc)
 

@@ -7,7 +7,7 @@ use Rattle.script_steps.specs.declared.name.Kind.{Kind as Word}
 use Rattle.script_steps.specs.declared.name.Kind.TheVariants as words
 use Rattle.script_steps.specs.declared.name.Name.{Name}
 use Rattle.script_text.specs.Fields.{HasNode, HasNumber}
-use Rattle.script_text.specs.StepTable.{HasAgain, HasFields, HasKind, HasName, MayHave}
+use Rattle.script_text.specs.StepTable.{HasAgain, HasFields, HasKind, HasName, HasParts, MayHave}
 use Rattle.script_text.specs.StepTable.{says_whose as name_says_whose}
 use Rattle.text_faults.specs.declared.kind.Kind.{Kind}
 use Rattle.text_faults.specs.declared.kind.Kind.TheVariants as kinds
@@ -75,7 +75,7 @@ word_of d k (inr (inr (inr (inr (inl is))))) held = (words.Higher, held ∙ ap (
 word_of d k (inr (inr (inr (inr (inr (inl is)))))) held = (words.Known, held ∙ ap (λ x. Some (string (kind_name x))) is)
 word_of d k (inr (inr (inr (inr (inr (inr none)))))) held = absurd none
 
-note_part : (place : Place) (kind : Kind) (d : Data) → fault_at place kind d (keys.Note, wants.NameOrNothing Notes) ≡ None
+pub note_part : (place : Place) (kind : Kind) (d : Data) → fault_at place kind d (keys.Note, wants.NameOrNothing Notes) ≡ None
     → (o : Option Word) × MayHave (HasKind d) d (codes "note") o
 note_part place kind d h = held_note (get (codes "note") d) refl h
   where
@@ -87,7 +87,7 @@ note_part place kind d h = held_note (get (codes "note") d) refl h
         let (word, has) = word_of d k one (is ∙ text) in
         (Some word, has)
 
-no_note_part_fault : (place : Place) (kind : Kind) (d : Data) (o : Option Word) → MayHave (HasKind d) d (codes "note") o
+pub no_note_part_fault : (place : Place) (kind : Kind) (d : Data) (o : Option Word) → MayHave (HasKind d) d (codes "note") o
     → fault_at place kind d (keys.Note, wants.NameOrNothing Notes) ≡ None
 no_note_part_fault place kind d None h = rw h refl
 no_note_part_fault place kind d (Some words.Prepare) h = rw h refl
@@ -129,20 +129,20 @@ fields place kind d h =
     let (at, f) = number_part place kind keys.Place d 18446744073709551615 64 refl h.1.1.1.1.0 in
     let (again, g) = again_part place kind d h.1.1.1.1.1.0 in (
       record { from = from; to = to; kind = note; ballot = ballot; place = at; again = again },
-      record { from = a; to = b; kind = c; ballot = e; place = f; again = g },
+      record { parts = record { from = a; to = b; kind = c; ballot = e; place = f }; again = g },
     )
 
 no_field_faults : (place : Place) (kind : Kind) (d : Data) (name : Name) → HasFields d name → NoneOf (fault_at place kind d) (rows_of kinds.Named)
 no_field_faults place kind d name h = (
-  no_node_part_fault place kind keys.From d name.from h.from,
+  no_node_part_fault place kind keys.From d name.from h.parts.from,
   (
-    no_node_part_fault place kind keys.To d name.to h.to,
+    no_node_part_fault place kind keys.To d name.to h.parts.to,
     (
-      no_note_part_fault place kind d name.kind h.kind,
+      no_note_part_fault place kind d name.kind h.parts.kind,
       (
-        no_number_part_fault place kind keys.Ballot d 18446744073709551615 64 name.ballot refl h.ballot,
+        no_number_part_fault place kind keys.Ballot d 18446744073709551615 64 name.ballot refl h.parts.ballot,
         (
-          no_number_part_fault place kind keys.Place d 18446744073709551615 64 name.place refl h.place,
+          no_number_part_fault place kind keys.Place d 18446744073709551615 64 name.place refl h.parts.place,
           (no_again_part_fault place kind d name.again h.again, tt),
         ),
       ),
@@ -159,7 +159,7 @@ note_there : (d : Data) (o : Option Word) → MayHave (HasKind d) d (codes "note
 note_there d None h = ap is_some h
 note_there d (Some word) h = ap is_some h
 
-whose : (d : Data) (name : Name) → HasFields d name → says_whose d ≡ name_says_whose name
+pub whose : (d : Data) (name : Name) → HasParts d name → says_whose d ≡ name_says_whose name
 whose d name h = rw (node_there d (codes "from") name.from h.from, node_there d (codes "to") name.to h.to, note_there d name.kind h.kind) refl
 
 -- ---- deliveries
@@ -178,7 +178,7 @@ asked place k d none = by_letter (get (codes "letter") d) (says_whose d) refl re
     by_letter (Some x) b is by none = inl (number place k keys.Letter d 18446744073709551615 64 refl (kept_keys place k kinds.Numbered d none).0)
     by_letter None true is by none =
         let (name, has) = fields place k d (kept_keys place k kinds.Named d none) in
-        inr (name, is, (has, sym (whose d name has) ∙ by))
+        inr (name, is, (has, sym (whose d name has.parts) ∙ by))
     by_letter None false is by none =
         let first : fault_of place k keys.Letter wants.Letter (get (codes "letter") d) ≡ None = (kept_keys place k kinds.Unnamed d none).0 in
         let lacking : fault_of place k keys.Letter wants.Letter None ≡ None = rw is at first in
@@ -191,5 +191,5 @@ no_numbered_fault place k d i h =
 
 pub no_named_fault : (place : Place) (k : Kind) (d : Data) (name : Name) → get (codes "letter") d ≡ None → HasName d name → key_faults place k (letter_kind_in d) d ≡ []
 no_named_fault place k d name unnumbered (has, says) =
-    let is : letter_kind_in d ≡ kinds.Named = ap (λ o. letter_kind o (says_whose d)) unnumbered ∙ ap (letter_kind None) (whose d name has ∙ says) in
+    let is : letter_kind_in d ≡ kinds.Named = ap (λ o. letter_kind o (says_whose d)) unnumbered ∙ ap (letter_kind None) (whose d name has.parts ∙ says) in
     subst (λ kind. key_faults place k kind d ≡ []) (sym is) (of_none (fault_at place k d) (rows_of kinds.Named) (no_field_faults place k d name has))

@@ -2,7 +2,9 @@ mod Noted
 mod Numbered
 mod Keys
 mod Spelled
+mod Items
 mod Letters
+mod Excepts
 mod Meant
 mod Whole
 mod Unfit

@@ -1,5 +1,5 @@
 -- Each fault is the one of what its key holds at its place.
-use Rattle.std.proofs.Common.{◌≡◌, ℕ, zero, suc, ◌+◌, ◌-◌, Bool, true, false, if◌then◌else◌, List, [], ◌∷◌, ◌++◌}
+use Rattle.std.proofs.Common.{◌≡◌, ℕ, suc, ◌+◌, ◌-◌, Bool, true, false, if◌then◌else◌, List, [], ◌∷◌, ◌++◌}
 use Rattle.std.proofs.Common.{Option, Some, None, slice_get, filter_map, codes, refl, sym, ap, ◌∙◌, subst, add-zero}
 use Rattle.std.proofs.Common.{arith}
 use Rattle.std.specs.List.{AllByRecursion, cons_option}
@@ -15,10 +15,12 @@ use Rattle.text_faults.specs.declared.fault.Fault.{Fault}
 use Rattle.text_faults.specs.Rows.{key_name, rows_of}
 use Rattle.text_faults.specs.Fits.{is_number, holds, may_lack}
 use Rattle.text_faults.specs.Items.{items_at}
-use Rattle.text_faults.specs.Unfit.{item_under, table_of, held_at, IsUnfit}
+use Rattle.text_faults.specs.Unfit.{excepted, item_under, table_of, held_at, IsUnfit}
 use Rattle.text_faults.specs.Faults.{found_in, fault_of, fault_at, key_faults, chosen, service_faults, kind_faults}
 use Rattle.text_faults.specs.Faults.{table_faults, is_hex, is_offer, offered_faults, command_faults, event_faults}
-use Rattle.text_faults.specs.Faults.{id_faults, numbered, plan_faults, script_faults}
+use Rattle.text_faults.specs.Faults.{except_faults, except_kind, id_faults, may_except, numbered}
+use Rattle.text_faults.specs.Faults.{own_faults, plan_faults}
+use Rattle.text_faults.specs.Faults.{script_faults}
 
 -- ---- all of some faults
 
@@ -139,11 +141,23 @@ of_offer : (whole : Data) (n : ℕ) (d : Data) → item_under whole (codes "even
 of_offer whole n d here true = of_digits whole n d here (get (codes "command") d) (get (codes "value") d) refl refl
 of_offer whole n d here false = tt
 
+of_except : (whole : Data) (n : ℕ) (d : Data) → item_under whole (codes "event") n ≡ Some d → (k : ℕ) (x : Data) → slice_get (items_at d (codes "except")) k ≡ Some x → AllByRecursion (IsUnfit whole) (except_faults n k x)
+of_except whole n d here k x there =
+    let place : Place = places.Excepted n k in
+    let at : table_of whole place ≡ Some x = ap (excepted k) here ∙ there in
+    all_unfit whole place x (λ key y. refl) at (key_faults place kinds.Excepted (except_kind x) x) (of_rows place kinds.Excepted x (rows_of (except_kind x)))
+
+of_excepts : (whole : Data) (n : ℕ) (d : Data) → item_under whole (codes "event") n ≡ Some d → (b : Bool) → AllByRecursion (IsUnfit whole) (if b then numbered (except_faults n) 0 (items_at d (codes "except")) else [])
+of_excepts whole n d here true =
+    all_numbered (IsUnfit whole) (except_faults n) 0 (items_at d (codes "except")) (λ k x there. let count : 0 + k ≡ k = omega arith in rw count (of_except whole n d here k x there))
+of_excepts whole n d here false = tt
+
 of_event : (whole : Data) (n : ℕ) (d : Data) → item_under whole (codes "event") n ≡ Some d → AllByRecursion (IsUnfit whole) (event_faults n d)
 of_event whole n d here =
     let place : Place = places.Event n in
     let own = all_unfit whole place d (λ key x. refl) here (table_faults place kinds.Event d) (of_table place kinds.Event d) in
-    all_append (IsUnfit whole) (table_faults place kinds.Event d) _ own (of_offer whole n d here (is_offer (chosen kinds.Event d)))
+    let offered = of_offer whole n d here (is_offer (chosen kinds.Event d)) in
+    all_append (IsUnfit whole) (own_faults n d) _ (all_append (IsUnfit whole) (table_faults place kinds.Event d) _ own offered) (of_excepts whole n d here (may_except (chosen kinds.Event d)))
 
 of_whole : (whole : Data) (kind : Kind) → AllByRecursion (IsUnfit whole) (key_faults places.Whole kind kind whole)
 of_whole whole kind = all_unfit whole places.Whole whole (λ key x. refl) refl (key_faults places.Whole kind kind whole) (of_rows places.Whole kind whole (rows_of kind))

@@ -1,5 +1,5 @@
 -- A text without a fault is read, and one that is read has no fault.
-use Rattle.std.proofs.Common.{◌≡◌, ℕ, ◌+◌, ◌^◌, ◌<◌, ◌≤◌, Bool, true, false, ◌==◌, ◌||◌, is_some, List, [], ◌∷◌, ◌++◌}
+use Rattle.std.proofs.Common.{◌≡◌, ℕ, ◌^◌, ◌<◌, ◌≤◌, Bool, true, false, ◌==◌, ◌||◌, is_some, List, [], ◌++◌}
 use Rattle.std.proofs.Common.{Option, Some, None, pos, negsuc, option_map, codes, refl, ap, arith}
 use Rattle.std.specs.List.{AllZip}
 use Rattle.std.proofs.lemmas.Bool.{le-leb, eqb-true}
@@ -9,12 +9,12 @@ use Rattle.ballots.specs.declared.members.Members.{Members as NodeCount}
 use Rattle.ballots.specs.declared.members.Members.TheVariants.{Three, Five}
 use Rattle.ballots.specs.Members.{member_count}
 use Rattle.grant_machine.specs.declared.command.Command.{Command}
-use Rattle.script_steps.specs.declared.step.Step.{Step}
+use Rattle.script_steps.specs.declared.entry.Entry.{Entry}
 use Rattle.script_text.specs.CommandTable.{SpellsCommand}
 use Rattle.script_text.specs.Items.{list_of, held_items, items_at, AllMean}
 use Rattle.script_text.specs.Script.{IsId}
 use Rattle.script_text.specs.StepScript.{IsStepTable}
-use Rattle.script_text.specs.StepTable.{MeansStep}
+use Rattle.script_text.specs.EntryTable.{MeansEntry}
 use Rattle.text_faults.specs.declared.kind.Kind.{Kind}
 use Rattle.text_faults.specs.declared.kind.Kind.TheVariants as kinds
 use Rattle.text_faults.specs.declared.row.Key.{Key}
@@ -30,25 +30,10 @@ use Rattle.text_faults.specs.Faults.{fault_of, fault_at, key_faults, id_faults, 
 use Rattle.text_faults.specs.Faults.{plan_faults, script_faults, IsPlanTable, IsScript, TellsWhether}
 use Rattle.text_faults.proofs.Keys.{both_empty, of_none, if_none, whole_number}
 use Rattle.text_faults.proofs.Spelled.{kept_keys, spelled, no_command_fault}
-use Rattle.text_faults.proofs.Meant.{if_empty, meant, no_step_fault}
+use Rattle.text_faults.proofs.Items.{all_mean, none_faulted}
+use Rattle.text_faults.proofs.Meant.{if_empty, meant, no_entry_fault}
 
--- ---- items
-
-all_mean : {X : Type 0} (Means : Data → X → Type 0) (f : ℕ → Data → List Fault) → ((n : ℕ) (d : Data) → f n d ≡ [] → (x : X) × Means d x)
-    → (n : ℕ) (ds : List Data) → numbered f n ds ≡ [] → (xs : List X) × AllZip Means ds xs
-all_mean Means f one n [] h = ([], tt)
-all_mean Means f one n (d ∷ ds) h =
-    let parts = both_empty (f n d) (numbered f (n + 1) ds) h in
-    let (x, means) = one n d parts.0 in
-    let (xs, rest) = all_mean Means f one (n + 1) ds parts.1 in
-    (x ∷ xs, (means, rest))
-
-none_faulted : {X : Type 0} (Means : Data → X → Type 0) (f : ℕ → Data → List Fault) → ((n : ℕ) (d : Data) (x : X) → Means d x → f n d ≡ [])
-    → (n : ℕ) (ds : List Data) (xs : List X) → AllZip Means ds xs → numbered f n ds ≡ []
-none_faulted Means f one n [] [] h = refl
-none_faulted Means f one n [] (x ∷ xs) h = absurd h
-none_faulted Means f one n (d ∷ ds) [] h = absurd h
-none_faulted Means f one n (d ∷ ds) (x ∷ xs) h = rw (one n d x h.0, none_faulted Means f one (n + 1) ds xs h.1) refl
+-- ---- ids
 
 -- an id
 id : (n : ℕ) (d : Data) → id_faults n d ≡ [] → (i : ℕ) × IsId d i
@@ -143,7 +128,7 @@ no_members_fault : (place : Place) (kind : Kind) (key : Key) (o : Option Data) (
 no_members_fault place kind key o Three is = rw is refl
 no_members_fault place kind key o Five is = rw is refl
 
-script_read : (ms : Members) → script_faults (table ms) ≡ [] → (count : NodeCount) × (ids : List ℕ) × (steps : List Step) × IsStepTable ms count ids steps
+script_read : (ms : Members) → script_faults (table ms) ≡ [] → (count : NodeCount) × (ids : List ℕ) × (entries : List Entry) × IsStepTable ms count ids entries
 script_read ms none =
     let d = table ms in
     let front = key_faults places.Whole kinds.Script kinds.Script d in
@@ -156,28 +141,28 @@ script_read ms none =
     let ids_there = ids places.Whole kinds.Script keys.Modems (get_member (codes "modems") ms) h.1.0 in
     let events_there = tables places.Whole kinds.Script keys.Event (get_member (codes "event") ms) h.1.1.0 in
     let (names, are_ids) = all_mean IsId id_faults id 0 (items_under d (codes "modems")) heads.1 in
-    let (steps, mean) = all_mean MeansStep event_faults meant 0 (items_under d (codes "event")) parts.1 in (
+    let (entries, mean) = all_mean MeansEntry event_faults meant 0 (items_under d (codes "event")) parts.1 in (
       count,
       names,
-      steps,
+      entries,
       record {
         members = has;
         modems = all_listed IsId (items_at ms (codes "modems")) (items_under d (codes "modems")) names ids_there are_ids;
-        steps = all_listed MeansStep (items_at ms (codes "event")) (items_under d (codes "event")) steps events_there mean;
+        steps = all_listed MeansEntry (items_at ms (codes "event")) (items_under d (codes "event")) entries events_there mean;
       },
     )
 
-no_script_fault : (ms : Members) (count : NodeCount) (names : List ℕ) (steps : List Step) → IsStepTable ms count names steps → script_faults (table ms) ≡ []
-no_script_fault ms count names steps h =
+no_script_fault : (ms : Members) (count : NodeCount) (names : List ℕ) (entries : List Entry) → IsStepTable ms count names entries → script_faults (table ms) ≡ []
+no_script_fault ms count names entries h =
     let d = table ms in
     let (xs, ids_there, are_ids) = some_listed IsId (items_at ms (codes "modems")) names h.modems in
-    let (ds, events_there, mean) = some_listed MeansStep (items_at ms (codes "event")) steps h.steps in
+    let (ds, events_there, mean) = some_listed MeansEntry (items_at ms (codes "event")) entries h.steps in
     let count_none = no_members_fault places.Whole kinds.Script keys.Members (get_member (codes "members") ms) count h.members in
     let ids_none = no_ids_fault places.Whole kinds.Script keys.Modems (get_member (codes "modems") ms) xs ids_there in
     let events_none = no_tables_fault places.Whole kinds.Script keys.Event (get_member (codes "event") ms) ds events_there in
     let keys_none = of_none (fault_at places.Whole kinds.Script d) (rows_of kinds.Script) (count_none, (ids_none.0, (events_none.0, tt))) in
     let modems_none = none_faulted IsId id_faults no_id_fault 0 xs names are_ids in
-    let happens_none = none_faulted MeansStep event_faults no_step_fault 0 ds steps mean in
+    let happens_none = none_faulted MeansEntry event_faults no_entry_fault 0 ds entries mean in
     rw (keys_none, ids_none.1, events_none.1, modems_none, happens_none) refl
 
 -- a script has no fault exactly where it is read

@@ -5,7 +5,7 @@ use Rattle.hex.specs.Hex.{decode_of}
 use Rattle.toml.specs.Data.{Data, string, integer, float, boolean, datetime, array, table, Members, get, as_str}
 use Rattle.ballots.specs.declared.members.Members.{Members as NodeCount}
 use Rattle.grant_machine.specs.declared.command.Command.{Command}
-use Rattle.script_steps.specs.declared.step.Step.{Step}
+use Rattle.script_steps.specs.declared.entry.Entry.{Entry}
 use Rattle.script_text.specs.CommandTable.{SpellsCommand}
 use Rattle.script_text.specs.Items.{items_at as members_items, AllMean}
 use Rattle.script_text.specs.StepScript.{IsStepTable}
@@ -124,26 +124,53 @@ abbrev pub is_offer : Option Kind → Bool
 is_offer None = false
 is_offer (Some kind) = offers kind
 
+-- ---- what an event excepts
+
+-- one of the keys is there that say something of a letter
+abbrev pub says_any : Data → Bool
+says_any d = says_whose d || (is_some (get (codes "ballot") d) || is_some (get (codes "place") d))
+
+-- of which kind a table is that excepts letters, and its faults, with the numbers of its event and its own
+abbrev pub except_kind : Data → Kind
+except_kind d = if says_any d then kinds.Excepted else kinds.Boundless
+
+abbrev pub except_faults : (n k : ℕ) → Data → List Fault
+except_faults n k d = key_faults (places.Excepted n k) kinds.Excepted (except_kind d) d
+
+-- the kind is one that may except letters
+abbrev pub excepts : Kind → Bool
+excepts kinds.DeliverAll = true
+excepts _ = false
+
+abbrev pub may_except : Option Kind → Bool
+may_except None = false
+may_except (Some kind) = excepts kind
+
 -- ---- the items of a text
-
--- the faults of a command, an event and a modem's id, with its number
-abbrev pub command_faults : ℕ → Data → List Fault
-command_faults n d = table_faults (places.Command n) kinds.Command d
-
-abbrev pub event_faults : ℕ → Data → List Fault
-event_faults n d =
-    table_faults (places.Event n) kinds.Event d
-    ++ (if is_offer (chosen kinds.Event d) then offered_faults n (get (codes "command") d) (get (codes "value") d) else [])
-
-abbrev pub id_faults : ℕ → Data → List Fault
-id_faults n d =
-    if is_number 4294967295 d then [] else
-    record { place = places.Modem n; kind = kinds.Modem; key = keys.Id; wants = word; found = found_in d } ∷ []
 
 -- what is told of items that are numbered from n on
 abbrev pub numbered : {X : Type 0} → (ℕ → Data → List X) → ℕ → List Data → List X
 numbered told n [] = []
 numbered told n (d ∷ ds) = told n d ++ numbered told (n + 1) ds
+
+-- the faults of a command, an event and a modem's id, with its number
+abbrev pub command_faults : ℕ → Data → List Fault
+command_faults n d = table_faults (places.Command n) kinds.Command d
+
+-- those of an event that don't concern what it excepts, and all
+abbrev pub own_faults : ℕ → Data → List Fault
+own_faults n d =
+    table_faults (places.Event n) kinds.Event d
+    ++ (if is_offer (chosen kinds.Event d) then offered_faults n (get (codes "command") d) (get (codes "value") d) else [])
+
+abbrev pub event_faults : ℕ → Data → List Fault
+event_faults n d =
+    own_faults n d ++ (if may_except (chosen kinds.Event d) then numbered (except_faults n) 0 (items_at d (codes "except")) else [])
+
+abbrev pub id_faults : ℕ → Data → List Fault
+id_faults n d =
+    if is_number 4294967295 d then [] else
+    record { place = places.Modem n; kind = kinds.Modem; key = keys.Id; wants = word; found = found_in d } ∷ []
 
 -- the faults of a plan, and of a script
 abbrev pub plan_faults : Data → List Fault
@@ -159,7 +186,7 @@ abbrev pub IsPlanTable : Members → Type 0
 IsPlanTable ms = (cs : List Command) × AllMean SpellsCommand (members_items ms (codes "command")) cs
 
 abbrev pub IsScript : Members → Type 0
-IsScript ms = (count : NodeCount) × (ids : List ℕ) × (steps : List Step) × IsStepTable ms count ids steps
+IsScript ms = (count : NodeCount) × (ids : List ℕ) × (entries : List Entry) × IsStepTable ms count ids entries
 
 -- the faults are none exactly where a table is read
 abbrev pub TellsWhether : (Members → Type 0) → Data → List Fault → Type 0

@@ -1,12 +1,13 @@
 -- Whether what a key holds is what is wanted there.
-use Rattle.std.specs.Prelude.{ℕ, ℤ, pos, negsuc, Bool, true, false, ◌==◌, ◌&&◌, ◌||◌, nat_le, List, Option, Some, None}
+use Rattle.std.specs.Prelude.{ℕ, ℤ, pos, negsuc, Bool, true, false, not, ◌==◌, ◌&&◌, ◌||◌, nat_le, List}
+use Rattle.std.specs.Prelude.{Option, Some, None}
 use Rattle.std.specs.Prelude.{is_some, is_none}
 use Rattle.toml.specs.Data.{Data, at, as_bool, as_integer, as_str, as_array}
 use Rattle.text_faults.specs.declared.kind.Group.{Group}
 use Rattle.text_faults.specs.declared.row.Wants.{Wants}
 use Rattle.text_faults.specs.declared.row.Wants.TheVariants.{Number, NumberOrNothing, Bytes, BytesOrNothing, Name}
 use Rattle.text_faults.specs.declared.row.Wants.TheVariants.{NameOrNothing, FlagOrNothing, Members, Tables, Ids, Hex}
-use Rattle.text_faults.specs.declared.row.Wants.TheVariants.{Nothing, Letter}
+use Rattle.text_faults.specs.declared.row.Wants.TheVariants.{Nothing, Letter, Excepts, Rounds, Bound}
 use Rattle.text_faults.specs.Kinds.{named}
 
 -- a number from 0 to this one
@@ -43,6 +44,14 @@ is_three_or_five (Some (negsuc n)) = false
 abbrev pub is_count : Data → Bool
 is_count d = is_three_or_five (as_integer d)
 
+-- an array of one item at least
+abbrev pub is_filled : Data → Bool
+is_filled d = is_some (at 0 d)
+
+-- a number from 1 to 4
+abbrev pub is_rounds : Data → Bool
+is_rounds d = is_number 4 d && not (is_number 0 d)
+
 -- the value is what is wanted; of digits, commands and letters without a name other keys decide
 abbrev pub holds : Wants → Data → Bool
 holds (Number most) d = is_number most d
@@ -58,6 +67,9 @@ holds Ids d = is_some (as_array d)
 holds Hex d = false
 holds Nothing d = false
 holds Letter d = false
+holds Excepts d = is_filled d
+holds Rounds d = is_rounds d
+holds Bound d = false
 
 -- nothing may be there
 abbrev pub may_lack : Wants → Bool
@@ -68,4 +80,6 @@ may_lack FlagOrNothing = true
 may_lack Tables = true
 may_lack Ids = true
 may_lack Nothing = true
+may_lack Excepts = true
+may_lack Rounds = true
 may_lack _ = false

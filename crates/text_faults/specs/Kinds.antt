@@ -1,12 +1,13 @@
 -- The kinds of the tables in a plan and in a script.
 use Rattle.std.specs.Prelude.{ℕ, List, [], ◌∷◌, Option, codes, bytes_eq, find}
 use Rattle.text_faults.specs.declared.kind.Kind.{Kind}
-use Rattle.text_faults.specs.declared.kind.Kind.TheVariants.{Plan, Script, Modem, Command, Event, Noop, Channel, Change}
+use Rattle.text_faults.specs.declared.kind.Kind.TheVariants.{Plan, Script, Modem, Command, Event, Noop}
+use Rattle.text_faults.specs.declared.kind.Kind.TheVariants.{Channel, Change}
 use Rattle.text_faults.specs.declared.kind.Kind.TheVariants.{Flow, Drop, Request, Cut, BestEffort, Ugs, Poll, Station}
 use Rattle.text_faults.specs.declared.kind.Kind.TheVariants.{Initial, Tdma, Advanced, Lead, Offer, Tell, Deliver}
 use Rattle.text_faults.specs.declared.kind.Kind.TheVariants.{DeliverThenCrash, Crash, Restart, Release, Hear, Want}
 use Rattle.text_faults.specs.declared.kind.Kind.TheVariants.{Tick, Numbered, Named, Unnamed, Prepare, Promise, Accept}
-use Rattle.text_faults.specs.declared.kind.Kind.TheVariants.{Voted, Higher, Known}
+use Rattle.text_faults.specs.declared.kind.Kind.TheVariants.{Voted, Higher, Known, DeliverAll, Excepted, Boundless}
 use Rattle.text_faults.specs.declared.kind.Group.{Group}
 use Rattle.text_faults.specs.declared.kind.Group.TheVariants.{Commands, Services, Phys, Events, Notes}
 
@@ -36,6 +37,7 @@ kind_name Offer = codes "offer"
 kind_name Tell = codes "tell"
 kind_name Deliver = codes "deliver"
 kind_name DeliverThenCrash = codes "deliver_then_crash"
+kind_name DeliverAll = codes "deliver_all"
 kind_name Crash = codes "crash"
 kind_name Restart = codes "restart"
 kind_name Release = codes "release"
@@ -45,6 +47,8 @@ kind_name Tick = codes "tick"
 kind_name Numbered = codes "numbered"
 kind_name Named = codes "named"
 kind_name Unnamed = codes "unnamed"
+kind_name Excepted = codes "excepted"
+kind_name Boundless = codes "boundless"
 kind_name Prepare = codes "prepare"
 kind_name Promise = codes "promise"
 kind_name Accept = codes "accept"
@@ -57,7 +61,7 @@ abbrev pub kinds_of : Group → List Kind
 kinds_of Commands = Noop ∷ Channel ∷ Change ∷ Flow ∷ Drop ∷ Request ∷ Cut ∷ []
 kinds_of Services = BestEffort ∷ Ugs ∷ Poll ∷ Station ∷ Initial ∷ []
 kinds_of Phys = Tdma ∷ Advanced ∷ []
-kinds_of Events = Lead ∷ Offer ∷ Tell ∷ Deliver ∷ DeliverThenCrash ∷ Crash ∷ Restart ∷ Release ∷ Hear ∷ Want ∷ Tick ∷ []
+kinds_of Events = Lead ∷ Offer ∷ Tell ∷ Deliver ∷ DeliverThenCrash ∷ DeliverAll ∷ Crash ∷ Restart ∷ Release ∷ Hear ∷ Want ∷ Tick ∷ []
 kinds_of Notes = Prepare ∷ Promise ∷ Accept ∷ Voted ∷ Higher ∷ Known ∷ []
 
 -- the kind of a group with this name

@@ -54,6 +54,8 @@ key_name keys.From = codes "from"
 key_name keys.Note = codes "note"
 key_name keys.Ballot = codes "ballot"
 key_name keys.Again = codes "again"
+key_name keys.Except = codes "except"
+key_name keys.Rounds = codes "rounds"
 
 -- numbers of so many bits
 abbrev pub byte : Wants
@@ -123,6 +125,10 @@ rows_of kinds.Tell = (keys.Node, long) ∷ (keys.To, member) ∷ (keys.Place, lo
 rows_of kinds.Numbered = (keys.Letter, long) ∷ []
 rows_of kinds.Named = (keys.From, any_member) ∷ (keys.To, any_member) ∷ (keys.Note, wants.NameOrNothing Notes) ∷ further
 rows_of kinds.Unnamed = (keys.Letter, wants.Letter) ∷ further
+rows_of kinds.DeliverAll = (keys.Except, wants.Excepts) ∷ (keys.Rounds, wants.Rounds) ∷ []
+rows_of kinds.Excepted =
+    (keys.From, any_member) ∷ (keys.To, any_member) ∷ (keys.Note, wants.NameOrNothing Notes) ∷ (keys.Ballot, last) ∷ (keys.Place, last) ∷ []
+rows_of kinds.Boundless = (keys.To, wants.Bound) ∷ []
 rows_of kinds.Crash = (keys.Node, long) ∷ []
 rows_of kinds.Restart = (keys.Node, long) ∷ []
 rows_of kinds.Release = (keys.Node, long) ∷ (keys.Now, long) ∷ []

@@ -21,6 +21,7 @@ place_text (places.Modem n) = codes "modem " ++ decimal n
 place_text (places.Command n) = codes "command " ++ decimal n
 place_text (places.Event n) = codes "event " ++ decimal n
 place_text (places.Offered n) = codes "event " ++ (decimal n ++ codes ": command")
+place_text (places.Excepted n k) = codes "event " ++ (decimal n ++ (codes ": except " ++ decimal k))
 
 -- its kind, behind its number
 abbrev pub subject_text : Kind → List ℕ
@@ -29,6 +30,7 @@ subject_text kinds.Script = codes "script"
 subject_text kinds.Modem = []
 subject_text kinds.Command = []
 subject_text kinds.Event = []
+subject_text kinds.Excepted = []
 subject_text kind = codes ": " ++ kind_name kind
 
 abbrev pub head_text : Place → Kind → List ℕ
@@ -56,6 +58,9 @@ wanted_text wants.Ids = codes "an array of whole numbers"
 wanted_text wants.Hex = codes "pairs of hexadecimal digits (there is no command)"
 wanted_text wants.Nothing = codes "left out (there is a command)"
 wanted_text wants.Letter = codes "a whole number, 0 or more (there is no from, to or note)"
+wanted_text wants.Excepts = codes "an array of one table at least"
+wanted_text wants.Rounds = codes "a whole number from 1 to 4"
+wanted_text wants.Bound = codes "a whole number from 0 to 4 (there is no from, note, ballot or place)"
 
 -- some text is wanted, or some array
 abbrev pub is_text : Wants → Bool
@@ -67,6 +72,7 @@ is_text _ = false
 abbrev pub is_array : Wants → Bool
 is_array wants.Bytes = true
 is_array wants.BytesOrNothing = true
+is_array wants.Excepts = true
 is_array _ = false
 
 -- what the key holds in place of that

@@ -18,6 +18,11 @@ abbrev pub under : List ℕ → Option Data → Option Data
 under key None = None
 under key (Some d) = get key d
 
+-- the table by this number that an event excepts, if the event is there
+abbrev pub excepted : ℕ → Option Data → Option Data
+excepted k None = None
+excepted k (Some d) = item_under d (codes "except") k
+
 -- the table, or the modem's id, at a place of a text
 abbrev pub table_of : Data → Place → Option Data
 table_of whole places.Whole = Some whole
@@ -25,6 +30,7 @@ table_of whole (places.Modem n) = item_under whole (codes "modems") n
 table_of whole (places.Command n) = item_under whole (codes "command") (n - 1)
 table_of whole (places.Event n) = item_under whole (codes "event") n
 table_of whole (places.Offered n) = under (codes "command") (item_under whole (codes "event") n)
+table_of whole (places.Excepted n k) = excepted k (item_under whole (codes "event") n)
 
 -- what a key holds there, or the id itself
 abbrev pub held_at : Place → Key → Data → Option Data

@@ -12,7 +12,7 @@ use Rattle.text_faults.specs.declared.fault.Place.TheVariants as places
 use Rattle.text_faults.specs.declared.unread.Unread.{Unread}
 use Rattle.text_faults.specs.Rows.{key_name, rows_of, choice_of}
 use Rattle.text_faults.specs.Items.{items_at}
-use Rattle.text_faults.specs.Faults.{chosen, offers, is_offer, numbered}
+use Rattle.text_faults.specs.Faults.{chosen, offers, is_offer, may_except, numbered}
 use Rattle.text_faults.specs.Texts.{head_text}
 
 -- a table's place, its kind, and the text of a key in it
@@ -69,14 +69,23 @@ abbrev pub offered_unread : ℕ → Option Data → Option Data → List KeyTher
 offered_unread n (Some command) None = unread_in (places.Offered n) kinds.Command command
 offered_unread n _ _ = []
 
+-- those of a table by which an event excepts letters, with the numbers of the event and its own
+abbrev pub except_unread : (n k : ℕ) → Data → List KeyThere
+except_unread n k d = unread_keys (places.Excepted n k) kinds.Excepted (kinds.Excepted ∷ []) d
+
 -- those of a command, and of an event, with its number
 abbrev pub command_unread : ℕ → Data → List KeyThere
 command_unread n d = unread_in (places.Command n) kinds.Command d
 
-abbrev pub event_unread : ℕ → Data → List KeyThere
-event_unread n d =
+-- those of an event that it doesn't except, and all
+abbrev pub own_unread : ℕ → Data → List KeyThere
+own_unread n d =
     unread_in (places.Event n) kinds.Event d
     ++ (if is_offer (chosen kinds.Event d) then offered_unread n (get (codes "command") d) (get (codes "value") d) else [])
+
+abbrev pub event_unread : ℕ → Data → List KeyThere
+event_unread n d =
+    own_unread n d ++ (if may_except (chosen kinds.Event d) then numbered (except_unread n) 0 (items_at d (codes "except")) else [])
 
 -- those of a plan, and of a script
 abbrev pub plan_unread : Data → List KeyThere

@@ -21,6 +21,8 @@ pub enum Place {
     Event(usize),
     /// The command that an event offers.
     Offered(usize),
+    /// An item of what an event excepts, by the event and the item, which count from 0.
+    Excepted(usize, usize),
 }
 
 /// What a key holds, as it is told.

@@ -2,7 +2,8 @@
 
 /// A kind of table. `Plan` and `Script` are a whole text, `Modem` is an id in a script's list, and `Command` and
 /// `Event` are tables whose own kind is still to be looked at. A delivery is `Numbered`, `Named` or `Unnamed` by how it
-/// asks for its letter, and letters are of the kinds from `Prepare` to `Known`.
+/// asks for its letter, and letters are of the kinds from `Prepare` to `Known`. What an event excepts is `Excepted`, or
+/// `Boundless` where it says nothing of a letter.
 #[derive(Clone, Copy, Debug, PartialEq, Eq)]
 pub enum Kind {
     Plan,
@@ -29,6 +30,7 @@ pub enum Kind {
     Tell,
     Deliver,
     DeliverThenCrash,
+    DeliverAll,
     Crash,
     Restart,
     Release,
@@ -38,6 +40,8 @@ pub enum Kind {
     Numbered,
     Named,
     Unnamed,
+    Excepted,
+    Boundless,
     Prepare,
     Promise,
     Accept,
@@ -89,6 +93,7 @@ impl Kind {
             Kind::Tell => "tell",
             Kind::Deliver => "deliver",
             Kind::DeliverThenCrash => "deliver_then_crash",
+            Kind::DeliverAll => "deliver_all",
             Kind::Crash => "crash",
             Kind::Restart => "restart",
             Kind::Release => "release",
@@ -98,6 +103,8 @@ impl Kind {
             Kind::Numbered => "numbered",
             Kind::Named => "named",
             Kind::Unnamed => "unnamed",
+            Kind::Excepted => "excepted",
+            Kind::Boundless => "boundless",
             Kind::Prepare => "prepare",
             Kind::Promise => "promise",
             Kind::Accept => "accept",
@@ -140,6 +147,7 @@ impl Group {
                 Kind::Tell,
                 Kind::Deliver,
                 Kind::DeliverThenCrash,
+                Kind::DeliverAll,
                 Kind::Crash,
                 Kind::Restart,
                 Kind::Release,

@@ -48,6 +48,8 @@ pub enum Key {
     Note,
     Ballot,
     Again,
+    Except,
+    Rounds,
 }
 
 /// What is wanted at a key.
@@ -79,6 +81,12 @@ pub enum Wants {
     Nothing,
     /// A letter's number, where no key says whose letter it is.
     Letter,
+    /// An array of one table at least, or nothing.
+    Excepts,
+    /// A whole number from 1 to 4, or nothing.
+    Rounds,
+    /// A node's number, where no key says anything of a letter.
+    Bound,
 }
 
 /// By what a table is of a further kind.
@@ -161,6 +169,8 @@ impl Key {
             Key::Note => "note",
             Key::Ballot => "ballot",
             Key::Again => "again",
+            Key::Except => "except",
+            Key::Rounds => "rounds",
         }
     }
 }
@@ -168,7 +178,7 @@ impl Key {
 impl Kind {
     ghost use Rattle.std.specs.Prelude.{◌≡◌};
     ghost use Rattle.text_faults.specs.Rows.{rows_of, choice_of};
-    ghost use Rattle.text_faults.specs.Faults.{offers};
+    ghost use Rattle.text_faults.specs.Faults.{excepts, offers};
 
     /// The keys that a table of this kind has, and what is wanted there. Behind those of `Command`, of `Event`, of a
     /// flow and of a delivery come the rows of their further kind.
@@ -186,6 +196,7 @@ impl Kind {
             Kind::Event => &[(Key::Kind, Wants::Name(Group::Events))],
             Kind::Modem | Kind::Noop | Kind::Tdma | Kind::Advanced => &[],
             Kind::Deliver | Kind::DeliverThenCrash => &[],
+            Kind::DeliverAll => &[(Key::Except, Wants::Excepts), (Key::Rounds, Wants::Rounds)],
             Kind::Prepare | Kind::Promise | Kind::Accept => &[],
             Kind::Voted | Kind::Higher | Kind::Known => &[],
             Kind::Channel => &[
@@ -265,6 +276,14 @@ impl Kind {
                 (Key::Place, LAST),
                 (Key::Again, Wants::FlagOrNothing),
             ],
+            Kind::Excepted => &[
+                (Key::From, ANY_MEMBER),
+                (Key::To, ANY_MEMBER),
+                (Key::Note, Wants::NameOrNothing(Group::Notes)),
+                (Key::Ballot, LAST),
+                (Key::Place, LAST),
+            ],
+            Kind::Boundless => &[(Key::To, Wants::Bound)],
             Kind::Unnamed => &[
                 (Key::Letter, Wants::Letter),
                 (Key::Ballot, LAST),
@@ -292,5 +311,12 @@ impl Kind {
         ensures { result ≡ offers self }
     {
         matches!(self, Kind::Offer)
+    }
+
+    /// Whether a table of this kind may except letters.
+    pub fn excepts(self) -> bool
+        ensures { result ≡ excepts self }
+    {
+        matches!(self, Kind::DeliverAll)
     }
 }

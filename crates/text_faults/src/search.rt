@@ -11,6 +11,7 @@ ghost use Rattle.text_faults.specs.Unfit.{IsUnfit};
 ghost use Rattle.text_faults.specs.Faults.{fault_at, key_faults, chosen, kind_faults, table_faults, is_hex, is_offer};
 ghost use Rattle.text_faults.specs.Faults.{letter_kind, named_in, says_whose};
 ghost use Rattle.text_faults.specs.Faults.{value_fault, offered_faults, command_faults, event_faults, id_faults};
+ghost use Rattle.text_faults.specs.Faults.{except_faults, except_kind, may_except, own_faults, says_any};
 ghost use Rattle.text_faults.specs.Faults.{numbered, plan_faults, script_faults, IsPlanTable, IsScript, TellsWhether};
 
 use crate::fault::{Fault, Found, Place, found_in};
@@ -186,6 +187,61 @@ pub(crate) fn is_offer(table: &Value) -> bool
     }
 }
 
+/// Whether one of the keys is there that say something of a letter.
+fn says_any(table: &Value) -> bool
+    ensures { result ≡ says_any (view table.now) }
+{
+    says_whose(table) || table.get("ballot").is_some() || table.get("place").is_some()
+}
+
+/// Of which kind a table is that excepts letters.
+pub(crate) fn except_kind(table: &Value) -> Kind
+    ensures { result ≡ except_kind (view table.now) }
+{
+    if says_any(table) {
+        Kind::Excepted
+    } else {
+        Kind::Boundless
+    }
+}
+
+/// Notes the faults of the tables by which an event excepts letters.
+fn note_excepts(faults: &mut Vec<Fault>, event: usize, items: &[Value]) -> Result<(), AllocError>
+    ensures { OnOk result (faults.new.items ≡ faults.old.items ++ numbered (except_faults event) 0 (map view items.now)) }
+{
+    for (i, item) in items.iter().enumerate() {
+        let place = Place::Excepted(event, i);
+        note_keys(faults, place, Kind::Excepted, except_kind(item), item)?;
+    }
+    Ok(())
+}
+
+/// Whether the table is of a kind that may except letters.
+pub(crate) fn may_except(table: &Value) -> bool
+    ensures { result ≡ may_except (chosen kinds.Event (view table.now)) }
+{
+    match chosen(Kind::Event, table) {
+        Some(kind) => kind.excepts(),
+        None => false,
+    }
+}
+
+/// Notes the faults of an event but for those of what it excepts.
+fn note_own(
+    alloc: Global,
+    faults: &mut Vec<Fault>,
+    event: usize,
+    table: &Value,
+) -> Result<(), AllocError>
+    ensures { OnOk result (faults.new.items ≡ faults.old.items ++ own_faults event (view table.now)) }
+{
+    note_table(faults, Place::Event(event), Kind::Event, table)?;
+    if is_offer(table) {
+        return note_offered(alloc, faults, event, table);
+    }
+    Ok(())
+}
+
 fn note_event(
     alloc: Global,
     faults: &mut Vec<Fault>,
@@ -194,9 +250,9 @@ fn note_event(
 ) -> Result<(), AllocError>
     ensures { OnOk result (faults.new.items ≡ faults.old.items ++ event_faults event (view table.now)) }
 {
-    note_table(faults, Place::Event(event), Kind::Event, table)?;
-    if is_offer(table) {
-        return note_offered(alloc, faults, event, table);
+    note_own(alloc, faults, event, table)?;
+    if may_except(table) {
+        return note_excepts(faults, event, items_at(table, "except"));
     }
     Ok(())
 }

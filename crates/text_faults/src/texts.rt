@@ -18,6 +18,7 @@ fn place_text(alloc: Global, place: Place) -> Result<String, AllocError>
         Place::Command(number) => format!(in alloc; "command {number}"),
         Place::Event(index) => format!(in alloc; "event {index}"),
         Place::Offered(index) => format!(in alloc; "event {index}: command"),
+        Place::Excepted(index, item) => format!(in alloc; "event {index}: except {item}"),
     }
 }
 
@@ -27,7 +28,7 @@ fn subject_text(alloc: Global, kind: Kind) -> Result<String, AllocError>
     match kind {
         Kind::Plan => String::from_str(alloc, "plan"),
         Kind::Script => String::from_str(alloc, "script"),
-        Kind::Modem | Kind::Command | Kind::Event => String::from_str(alloc, ""),
+        Kind::Modem | Kind::Command | Kind::Event | Kind::Excepted => String::from_str(alloc, ""),
         _ => format!(in alloc; ": {}", kind.name()),
     }
 }
@@ -75,6 +76,12 @@ fn wanted_text(alloc: Global, wants: Wants) -> Result<String, AllocError>
         Wants::Ids => String::from_str(alloc, "an array of whole numbers"),
         Wants::Hex => String::from_str(alloc, "pairs of hexadecimal digits (there is no command)"),
         Wants::Nothing => String::from_str(alloc, "left out (there is a command)"),
+        Wants::Excepts => String::from_str(alloc, "an array of one table at least"),
+        Wants::Rounds => String::from_str(alloc, "a whole number from 1 to 4"),
+        Wants::Bound => String::from_str(
+            alloc,
+            "a whole number from 0 to 4 (there is no from, note, ballot or place)",
+        ),
         Wants::Letter => String::from_str(
             alloc,
             "a whole number, 0 or more (there is no from, to or note)",

@@ -9,11 +9,12 @@ ghost use Rattle.text_faults.specs.Faults.{chosen, numbered};
 ghost use Rattle.text_faults.specs.Rows.{choice_of};
 ghost use Rattle.text_faults.specs.Unread.{key_there, has_row, is_offered, has_key, is_read, unread_keys};
 ghost use Rattle.text_faults.specs.Unread.{unread_of_kind, unread_of_kinds, unread_in, offered_unread, command_unread};
-ghost use Rattle.text_faults.specs.Unread.{event_unread, plan_unread, script_unread, is_bare, name_text, unread_text};
+ghost use Rattle.text_faults.specs.Unread.{event_unread, except_unread, own_unread, plan_unread};
+ghost use Rattle.text_faults.specs.Unread.{script_unread, is_bare, name_text, unread_text};
 
 use crate::fault::Place;
 use crate::kind::Kind;
-use crate::search::{chosen, is_offer, items_at};
+use crate::search::{chosen, is_offer, items_at, may_except};
 use crate::texts::head_text;
 use std::alloc::{AllocError, Global};
 use toml::{Table, Value};
@@ -55,24 +56,30 @@ fn is_read(kinds: &[Kind], name: &str) -> bool
     kinds.iter().any(|kind| has_key(name, *kind))
 }
 
+/// A table, as it is told: its place and its kind.
+#[derive(Clone, Copy)]
+struct Told {
+    place: Place,
+    kind: Kind,
+}
+
 /// Notes the keys of a table that none of these kinds reads.
 fn note_members(
     alloc: Global,
     unread: &mut Vec<Unread>,
-    place: Place,
-    told: Kind,
+    told: Told,
     kinds: &[Kind],
     members: &Table,
 ) -> Result<(), AllocError>
     ensures { OnOk result (map key_there unread.new.items
-        ≡ map key_there unread.old.items ++ unread_keys place told kinds.now (table (table_view members.now))) }
+        ≡ map key_there unread.old.items ++ unread_keys told.place told.kind kinds.now (table (table_view members.now))) }
 {
     for (key, _) in members {
         if !is_read(kinds, key.as_str()) {
             let key = String::from_str(alloc, key.as_str())?;
             unread.push(Unread {
-                place,
-                kind: told,
+                place: told.place,
+                kind: told.kind,
                 key,
             })?;
         }
@@ -83,35 +90,34 @@ fn note_members(
 fn note_keys(
     alloc: Global,
     unread: &mut Vec<Unread>,
-    place: Place,
-    told: Kind,
+    told: Told,
     kinds: &[Kind],
     table: &Value,
 ) -> Result<(), AllocError>
     ensures { OnOk result (map key_there unread.new.items
-        ≡ map key_there unread.old.items ++ unread_keys place told kinds.now (view table.now)) }
+        ≡ map key_there unread.old.items ++ unread_keys told.place told.kind kinds.now (view table.now)) }
 {
     match table {
-        Value::Table(members) => note_members(alloc, unread, place, told, kinds, members),
+        Value::Table(members) => note_members(alloc, unread, told, kinds, members),
         _ => Ok(()),
     }
 }
 
-/// Notes those of a table that is of two kinds, and of a third if the second has a choice.
+/// Notes those of a table that is of two kinds, and of a third if the second has a choice. The second is told.
 fn note_kinds(
     alloc: Global,
     unread: &mut Vec<Unread>,
-    place: Place,
+    told: Told,
     first: Kind,
-    kind: Kind,
     table: &Value,
 ) -> Result<(), AllocError>
     ensures { OnOk result (map key_there unread.new.items ≡ map key_there unread.old.items
-        ++ unread_of_kinds place first kind (choice_of kind) (chosen kind (view table.now)) (view table.now)) }
+        ++ unread_of_kinds told.place first told.kind (choice_of told.kind) (chosen told.kind (view table.now)) (view table.now)) }
 {
+    let kind = told.kind;
     match (kind.choice(), chosen(kind, table)) {
-        (_, Some(service)) => note_keys(alloc, unread, place, kind, &[first, kind, service], table),
-        (None, None) => note_keys(alloc, unread, place, kind, &[first, kind], table),
+        (_, Some(service)) => note_keys(alloc, unread, told, &[first, kind, service], table),
+        (None, None) => note_keys(alloc, unread, told, &[first, kind], table),
         (Some(_), None) => Ok(()),
     }
 }
@@ -127,7 +133,7 @@ fn note_table(
     ensures { OnOk result (map key_there unread.new.items ≡ map key_there unread.old.items ++ unread_in place first (view table.now)) }
 {
     match chosen(first, table) {
-        Some(kind) => note_kinds(alloc, unread, place, first, kind, table),
+        Some(kind) => note_kinds(alloc, unread, Told { place, kind }, first, table),
         None => Ok(()),
     }
 }
@@ -154,6 +160,42 @@ fn note_offered(
     }
 }
 
+/// Notes those of the tables by which an event excepts letters.
+fn note_excepts(
+    alloc: Global,
+    unread: &mut Vec<Unread>,
+    event: usize,
+    items: &[Value],
+) -> Result<(), AllocError>
+    ensures { OnOk result (map key_there unread.new.items
+        ≡ map key_there unread.old.items ++ numbered (except_unread event) 0 (map view items.now)) }
+{
+    for (i, item) in items.iter().enumerate() {
+        let told = Told {
+            place: Place::Excepted(event, i),
+            kind: Kind::Excepted,
+        };
+        note_keys(alloc, unread, told, &[Kind::Excepted], item)?;
+    }
+    Ok(())
+}
+
+/// Notes those of an event but for those of what it excepts.
+fn note_own(
+    alloc: Global,
+    unread: &mut Vec<Unread>,
+    event: usize,
+    table: &Value,
+) -> Result<(), AllocError>
+    ensures { OnOk result (map key_there unread.new.items ≡ map key_there unread.old.items ++ own_unread event (view table.now)) }
+{
+    note_table(alloc, unread, Place::Event(event), Kind::Event, table)?;
+    if is_offer(table) {
+        return note_offered(alloc, unread, event, table);
+    }
+    Ok(())
+}
+
 fn note_event(
     alloc: Global,
     unread: &mut Vec<Unread>,
@@ -162,9 +204,9 @@ fn note_event(
 ) -> Result<(), AllocError>
     ensures { OnOk result (map key_there unread.new.items ≡ map key_there unread.old.items ++ event_unread event (view table.now)) }
 {
-    note_table(alloc, unread, Place::Event(event), Kind::Event, table)?;
-    if is_offer(table) {
-        return note_offered(alloc, unread, event, table);
+    note_own(alloc, unread, event, table)?;
+    if may_except(table) {
+        return note_excepts(alloc, unread, event, items_at(table, "except"));
     }
     Ok(())
 }
@@ -194,14 +236,11 @@ pub fn plan_unread(alloc: Global, plan: &Value) -> Result<Vec<Unread>, AllocErro
     ensures { IfOk result (λ unread. map key_there unread.items ≡ plan_unread (view plan.now)) }
 {
     let mut unread = Vec::new(alloc);
-    note_keys(
-        alloc,
-        &mut unread,
-        Place::Whole,
-        Kind::Plan,
-        &[Kind::Plan],
-        plan,
-    )?;
+    let told = Told {
+        place: Place::Whole,
+        kind: Kind::Plan,
+    };
+    note_keys(alloc, &mut unread, told, &[Kind::Plan], plan)?;
     note_commands(alloc, &mut unread, items_at(plan, "command"))?;
     Ok(unread)
 }
@@ -211,14 +250,11 @@ pub fn script_unread(alloc: Global, script: &Value) -> Result<Vec<Unread>, Alloc
     ensures { IfOk result (λ unread. map key_there unread.items ≡ script_unread (view script.now)) }
 {
     let mut unread = Vec::new(alloc);
-    note_keys(
-        alloc,
-        &mut unread,
-        Place::Whole,
-        Kind::Script,
-        &[Kind::Script],
-        script,
-    )?;
+    let told = Told {
+        place: Place::Whole,
+        kind: Kind::Script,
+    };
+    note_keys(alloc, &mut unread, told, &[Kind::Script], script)?;
     note_events(alloc, &mut unread, items_at(script, "event"))?;
     Ok(unread)
 }

@@ -4,7 +4,8 @@ ghost use Rattle.std.specs.Prelude.{◌≡◌};
 ghost use Rattle.toml.specs.View.{view};
 ghost use Rattle.toml.specs.Data.{at};
 ghost use Rattle.text_faults.specs.Texts.{is_text, is_array};
-ghost use Rattle.text_faults.specs.Fits.{is_number, is_item, is_pair, is_name, is_count, holds, may_lack};
+ghost use Rattle.text_faults.specs.Fits.{is_number, is_item, is_pair, is_name, is_count, is_filled, is_rounds};
+ghost use Rattle.text_faults.specs.Fits.{holds, may_lack};
 
 use crate::kind::Group;
 use crate::row::Wants;
@@ -58,6 +59,19 @@ fn is_count(value: &Value) -> bool
     }
 }
 
+/// Whether it is an array of one item at least.
+fn is_filled(value: &Value) -> bool
+    ensures { result ≡ is_filled (view value.now) }
+{
+    value.get(0).is_some()
+}
+
+fn is_rounds(value: &Value) -> bool
+    ensures { result ≡ is_rounds (view value.now) }
+{
+    is_number(value, 4) && !is_number(value, 0)
+}
+
 impl Wants {
     /// Whether a value is what is wanted.
     pub(crate) fn holds(self, value: &Value) -> bool
@@ -70,7 +84,9 @@ impl Wants {
             Wants::FlagOrNothing => value.as_bool().is_some(),
             Wants::Members => is_count(value),
             Wants::Tables | Wants::Ids => value.as_array().is_some(),
-            Wants::Hex | Wants::Nothing | Wants::Letter => false,
+            Wants::Excepts => is_filled(value),
+            Wants::Rounds => is_rounds(value),
+            Wants::Hex | Wants::Nothing | Wants::Letter | Wants::Bound => false,
         }
     }
 
@@ -85,9 +101,11 @@ impl Wants {
             | Wants::FlagOrNothing
             | Wants::Tables
             | Wants::Ids
-            | Wants::Nothing => true,
+            | Wants::Nothing
+            | Wants::Excepts
+            | Wants::Rounds => true,
             Wants::Number(_) | Wants::Bytes | Wants::Name(_) => false,
-            Wants::Members | Wants::Hex | Wants::Letter => false,
+            Wants::Members | Wants::Hex | Wants::Letter | Wants::Bound => false,
         }
     }
 
@@ -98,10 +116,10 @@ impl Wants {
         matches!(self, Wants::Name(_) | Wants::NameOrNothing(_) | Wants::Hex)
     }
 
-    /// Whether some array of numbers is wanted.
+    /// Whether some array is wanted that may be another one.
     pub(crate) fn is_array(self) -> bool
         ensures { result ≡ is_array self }
     {
-        matches!(self, Wants::Bytes | Wants::BytesOrNothing)
+        matches!(self, Wants::Bytes | Wants::BytesOrNothing | Wants::Excepts)
     }
 }

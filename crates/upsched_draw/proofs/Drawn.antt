@@ -8,7 +8,7 @@ use Rattle.upsched_draw.specs.Learned.{AreMostLearned}
 use Rattle.map_picture.specs.declared.sent.Sent.{Sent}
 use Rattle.network_script.specs.World.{Written}
 use Rattle.seats.specs.declared.answer.Transmission.{Transmission}
-use Rattle.script_steps.specs.declared.step.Step.{Step}
+use Rattle.script_steps.specs.declared.entry.Entry.{Entry}
 use Rattle.script_text.specs.StepScript.{IsStepScript, NoSteps}
 use Rattle.watched_runs.specs.Rows.{Seen}
 use Rattle.watched_runs.specs.Steps.{IsStepRun, Leave}
@@ -18,14 +18,14 @@ use Rattle.upsched_draw.specs.Draws.{DrawsLearned, LearnsFrom, LeavesLearned, Te
 use Rattle.upsched_draw.specs.Transmitted.{told}
 
 -- what nodes learn and modems transmit in a run
-pub run_learned : (members nodes : ℕ) (ids given : List ℕ) (steps : List Step) (events : List Event) (run : Seen) (w : Written) (cs : List Command) (sent : List Transmission) (ts : List Sent)
+pub run_learned : (members nodes : ℕ) (ids given : List ℕ) (steps : List Entry) (events : List Event) (run : Seen) (w : Written) (cs : List Command) (sent : List Transmission) (ts : List Sent)
     → IsStepRun nodes given steps events run → Leave nodes given events run w → nodes ≡ members → given ≡ ids → AreMostLearned w.nodes cs
     → sent ≡ w.transmissions → ts ≡ map (told ids) sent → LeavesLearned members ids steps cs ts
 run_learned members nodes ids given steps events run w cs sent ts is_run leave is_count is_ids most is_sent is_told =
     (events, run, rw (is_count, is_ids) at is_run, w, rw (is_count, is_ids) at leave, most, is_told ∙ ap (map (told ids)) is_sent)
 
 -- and in a script that is read off a text
-pub script_learned : (known : Option (List ℕ)) (count : Members) (ids : List ℕ) (steps : List Step) (cs : List Command) (ts : List Sent)
+pub script_learned : (known : Option (List ℕ)) (count : Members) (ids : List ℕ) (steps : List Entry) (cs : List Command) (ts : List Sent)
     → IfSome known (λ text. IsStepScript text count ids steps) → LeavesLearned (member_count count) ids steps cs ts → IfSome known (λ text. LearnsFrom text cs ts)
 script_learned None count ids steps cs ts read leaves = tt
 script_learned (Some text) count ids steps cs ts read leaves = (count, ids, steps, read, leaves)

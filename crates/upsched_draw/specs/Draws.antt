@@ -9,7 +9,7 @@ use Rattle.grant_machine.specs.declared.command.Command.{Command}
 use Rattle.network_script.specs.World.{Written}
 use Rattle.watched_runs.specs.Rows.{Seen}
 use Rattle.watched_runs.specs.Steps.{IsStepRun, Leave}
-use Rattle.script_steps.specs.declared.step.Step.{Step}
+use Rattle.script_steps.specs.declared.entry.Entry.{Entry}
 use Rattle.script_text.specs.StepScript.{IsStepScript}
 use Rattle.run_picture.specs.Pictures.{IsPictureOf}
 use Rattle.upsched_check.specs.Draws.{DrawsCommands, TellsCommands}
@@ -38,7 +38,7 @@ DrawsRun drawn members ids span run old new = ⊥
 
 -- what is printed is a picture of what is asked for of a run of these steps, over so many fresh nodes and new modems of
 -- these ids, each the event that it means where it happens; where the run has no such events, nothing is
-abbrev pub DrawsSteps : Bool → ℕ → List ℕ → Asked → List Step → Option (List ℕ) → Option (List ℕ) → Type 0
+abbrev pub DrawsSteps : Bool → ℕ → List ℕ → Asked → List Entry → Option (List ℕ) → Option (List ℕ) → Type 0
 DrawsSteps drawn members ids asked steps old new =
     (events : List Event) × (run : Seen) × IsStepRun members ids steps events run × DrawsRun drawn members ids (span_of asked (length run.rows)) run old new
 
@@ -46,13 +46,13 @@ DrawsSteps drawn members ids asked steps old new =
 abbrev pub DrawsScript : Bool → Asked → Option (List ℕ) → Option (List ℕ) → Option (List ℕ) → Type 0
 DrawsScript drawn asked None old new = Unit {0}
 DrawsScript drawn asked (Some text) old new =
-    (count : Members) × (ids : List ℕ) × (steps : List Step) × IsStepScript text count ids steps × DrawsSteps drawn (member_count count) ids asked steps old new
+    (count : Members) × (ids : List ℕ) × (steps : List Entry) × IsStepScript text count ids steps × DrawsSteps drawn (member_count count) ids asked steps old new
 
 -- ---- the MAPs of a run
 
 -- the steps may go so, over so many fresh nodes and new modems of these ids, that in the end these are the commands of a
 -- node that has learned most, and this is what the modems have transmitted
-abbrev pub LeavesLearned : ℕ → List ℕ → List Step → List Command → List Sent → Type 0
+abbrev pub LeavesLearned : ℕ → List ℕ → List Entry → List Command → List Sent → Type 0
 LeavesLearned members ids steps cs ts =
     (events : List Event) × (run : Seen) × IsStepRun members ids steps events run
     × (w : Written) × Leave members ids events run w × AreMostLearned w.nodes cs × (ts ≡ map (told ids) w.transmissions)
@@ -60,7 +60,7 @@ LeavesLearned members ids steps cs ts =
 -- so in the script that a text is
 abbrev pub LearnsFrom : List ℕ → List Command → List Sent → Type 0
 LearnsFrom text cs ts =
-    (count : Members) × (ids : List ℕ) × (steps : List Step) × IsStepScript text count ids steps × LeavesLearned (member_count count) ids steps cs ts
+    (count : Members) × (ids : List ℕ) × (steps : List Entry) × IsStepScript text count ids steps × LeavesLearned (member_count count) ids steps cs ts
 
 -- what is printed is a picture of what these commands do, as it is of a plan's, and of what modems transmitted in the
 -- same run, where the text is known

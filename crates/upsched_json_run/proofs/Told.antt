@@ -10,7 +10,7 @@ use Rattle.ballots.specs.declared.letters.Letter.{Letter}
 use Rattle.ballots.specs.declared.members.Members.{Members}
 use Rattle.seats.specs.declared.answer.ReleasedOutput.{ReleasedOutput}
 use Rattle.seats.specs.declared.answer.Transmission.{Transmission}
-use Rattle.script_steps.specs.declared.step.Step.{Step}
+use Rattle.script_steps.specs.declared.entry.Entry.{Entry}
 use Rattle.script_text.specs.StepScript.{IsStepScript}
 use Rattle.watched_runs.specs.Rows.{Row, Seen}
 use Rattle.watched_runs.specs.Steps.{IsStepRun}
@@ -46,19 +46,19 @@ run_printed traced run letters outputs sent old mid out new rows is_letters is_o
     (mid, rows, value_kept (counts_data (length run.letters) (length run.outputs) (length run.transmissions)) mid out new counts kept)
 
 -- a run is printed
-pub run_told : (traced : Bool) (members : ℕ) (given ids : List ℕ) (steps : List Step) (events : List Event) (run told : Seen) (old new : Option (List ℕ)) → given ≡ ids → told ≡ run
+pub run_told : (traced : Bool) (members : ℕ) (given ids : List ℕ) (steps : List Entry) (events : List Event) (run told : Seen) (old new : Option (List ℕ)) → given ≡ ids → told ≡ run
     → IsStepRun members given steps events run → PrintsRun traced told old new → PrintsStepsAsJson traced members ids steps old new
 run_told traced members given ids steps events run told old new is_ids same is_run printed =
     (events, run, rw is_ids at is_run, subst (λ (r : Seen). PrintsRun traced r old new) same printed)
 
 -- lines of a run of a script that is read off a text are what the text prints
-script_printed : (traced : Bool) (known old new : Option (List ℕ)) (count : Members) (ids : List ℕ) (steps : List Step) → IfSome known (λ text. IsStepScript text count ids steps)
+script_printed : (traced : Bool) (known old new : Option (List ℕ)) (count : Members) (ids : List ℕ) (steps : List Entry) → IfSome known (λ text. IsStepScript text count ids steps)
     → PrintsStepsAsJson traced (member_count count) ids steps old new → PrintsScriptAsJson traced known old new
 script_printed traced None old new count ids steps read prints = tt
 script_printed traced (Some text) old new count ids steps read prints = (count, ids, steps, read, prints)
 
 -- where a run went well, its script was printed
-pub plain_printed : {T E : Type 0} (traced : Bool) (r : Result T E) (known old new : Option (List ℕ)) (count : Members) (ids : List ℕ) (steps : List Step) → IfSome known (λ text. IsStepScript text count ids steps)
+pub plain_printed : {T E : Type 0} (traced : Bool) (r : Result T E) (known old new : Option (List ℕ)) (count : Members) (ids : List ℕ) (steps : List Entry) → IfSome known (λ text. IsStepScript text count ids steps)
     → OnOk r (PrintsStepsAsJson traced (member_count count) ids steps old new) → OnOk r (PrintsScriptAsJson traced known old new)
 plain_printed traced (Err e) known old new count ids steps read prints = tt
 plain_printed traced (Ok x) known old new count ids steps read prints = script_printed traced known old new count ids steps read prints

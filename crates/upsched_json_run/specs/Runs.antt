@@ -5,7 +5,7 @@ use Rattle.std.specs.List.{AllZip}
 use Rattle.ballots.specs.declared.members.Members.{Members}
 use Rattle.ballots.specs.Members.{member_count}
 use Rattle.world_events.specs.declared.event.Event.{Event}
-use Rattle.script_steps.specs.declared.step.Step.{Step}
+use Rattle.script_steps.specs.declared.entry.Entry.{Entry}
 use Rattle.script_text.specs.StepScript.{IsStepScript}
 use Rattle.watched_runs.specs.Rows.{Row, Seen}
 use Rattle.watched_runs.specs.Steps.{IsStepRun}
@@ -30,7 +30,7 @@ PrintsRun traced run old new =
 
 -- what is printed tells, traced or not, a run of these steps over so many fresh nodes and new modems of these ids, each
 -- the event that it means where it happens
-abbrev pub PrintsStepsAsJson : Bool → ℕ → List ℕ → List Step → Option (List ℕ) → Option (List ℕ) → Type 0
+abbrev pub PrintsStepsAsJson : Bool → ℕ → List ℕ → List Entry → Option (List ℕ) → Option (List ℕ) → Type 0
 PrintsStepsAsJson traced members ids steps old new =
     (events : List Event) × (run : Seen) × IsStepRun members ids steps events run × PrintsRun traced run old new
 
@@ -38,5 +38,5 @@ PrintsStepsAsJson traced members ids steps old new =
 abbrev pub PrintsScriptAsJson : Bool → Option (List ℕ) → Option (List ℕ) → Option (List ℕ) → Type 0
 PrintsScriptAsJson traced None old new = Unit {0}
 PrintsScriptAsJson traced (Some text) old new =
-    (count : Members) × (ids : List ℕ) × (steps : List Step) × IsStepScript text count ids steps
+    (count : Members) × (ids : List ℕ) × (steps : List Entry) × IsStepScript text count ids steps
     × PrintsStepsAsJson traced (member_count count) ids steps old new

@@ -1,24 +1,25 @@
 -- What is printed of a run, one event after another.
-use Rattle.std.proofs.Common.{◌≡◌, Bool, ℕ, ◌+◌, ◌<◌, List, [], ◌∷◌, ◌++◌, length, get_or, take, drop, Option, Some}
+use Rattle.std.proofs.Common.{◌≡◌, Bool, ℕ, ◌+◌, ◌<◌, ◌≤◌, List, [], ◌∷◌, ◌++◌, length, get_or, drop, Option, Some}
 use Rattle.std.proofs.Common.{None, IfSome, Result, Ok, Err, OnOk, ap, ◌∙◌, sym, refl, append_assoc, append-nil}
-use Rattle.std.proofs.Common.{add-one, add_assoc, subst}
+use Rattle.std.proofs.Common.{add-one, add_assoc, subst, arith}
 use Rattle.std.proofs.lemmas.Grind.{flat_map-append}
-use Rattle.std.proofs.lemmas.List.{take_more}
 use Rattle.std.proofs.Math.Seq.{drop-cons}
 use Rattle.std.specs.Io.KnownBytes.{Appends}
 use Rattle.std.specs.List.{flat_map}
-use Rattle.std.proofs.KnownBytes.{Appends-trans}
+use Rattle.std.proofs.KnownBytes.{Appends-nil, Appends-trans}
 use Rattle.ballots.specs.Members.{member_count}
 use Rattle.ballots.specs.declared.letters.Letter.{Letter}
 use Rattle.ballots.specs.declared.members.Members.{Members}
-use Rattle.script_steps.specs.declared.step.Step.{Step}
+use Rattle.script_steps.specs.declared.entry.Entry.{Entry}
 use Rattle.script_text.specs.StepScript.{IsStepScript}
+use Rattle.watched_runs.specs.Marks.{between}
 use Rattle.watched_runs.specs.Rows.{Row, Seen}
 use Rattle.watched_runs.specs.Steps.{IsStepRun}
 use Rattle.world_events.specs.declared.event.Event.{Event}
+use Rattle.watched_runs.proofs.Stages.{none_between, one_between}
 use Rattle.upsched_run.specs.declared.trace.Trace.{Trace}
 use Rattle.upsched_run.specs.Run.{PrintsScript, PrintsSteps}
-use Rattle.upsched_run.specs.RunLines.{letter_line, letter_lines, row_lines, run_lines}
+use Rattle.upsched_run.specs.RunLines.{letter_line, letter_lines, run_lines}
 
 -- some text was printed, and what is left joined to it is the whole
 pub record IsPartOf (whole left : List ℕ) (old new : Option (List ℕ)) : Type 0 where
@@ -43,29 +44,38 @@ one_letter named word letters first i l whole old x y below is_letter before lin
     rw (drop-cons letters i l below, sym is_letter, sym (add_assoc first i 1), add-one i) refl in
     one_more whole _ _ old x y (rw next at before) line
 
--- the lines of one event more
-pub one_row : (trace : Trace) (rows : List Row) (i : ℕ) (row : Row) (old mid new : Option (List ℕ)) → i < length rows → row ≡ get_or rows i row
-    → Appends old mid (flat_map (row_lines trace) (take i rows)) → Appends mid new (row_lines trace row) → Appends old new (flat_map (row_lines trace) (take (i + 1) rows))
-one_row trace rows i row old mid new below is before line =
-    let here : flat_map (row_lines trace) (get_or rows i row ∷ []) ≡ row_lines trace row = append-nil (row_lines trace (get_or rows i row)) ∙ ap (row_lines trace) (sym is) in
-    let whole : flat_map (row_lines trace) (take (i + 1) rows) ≡ flat_map (row_lines trace) (take i rows) ++ row_lines trace row =
-    ap (flat_map (row_lines trace)) (take_more rows i row below) ∙ flat_map-append (row_lines trace) (take i rows) (get_or rows i row ∷ [])
-    ∙ ap (λ t. flat_map (row_lines trace) (take i rows) ++ t) here in
+-- the lines of no row, and of one row more
+pub no_row : (f : Row → List ℕ) (rows : List Row) (n : ℕ) (old : Option (List ℕ)) → Appends old old (flat_map f (between (n, n) rows))
+no_row f rows n old = subst (λ (rs : List Row). Appends old old (flat_map f rs)) (sym (none_between n rows)) (Appends-nil old)
+
+pub one_row : (f : Row → List ℕ) (rows : List Row) (from i : ℕ) (row : Row) (old mid new : Option (List ℕ)) → from ≤ i → i < length rows → row ≡ get_or rows i row
+    → Appends old mid (flat_map f (between (from, i) rows)) → Appends mid new (f row) → Appends old new (flat_map f (between (from, i + 1) rows))
+one_row f rows from i row old mid new above below is before line =
+    let whole : flat_map f (between (from, i + 1) rows) ≡ flat_map f (between (from, i) rows) ++ f row =
+    ap (flat_map f) (one_between from i rows row above below is) ∙ flat_map-append f (between (from, i) rows) (row ∷ [])
+    ∙ ap (λ t. flat_map f (between (from, i) rows) ++ t) (append-nil (f row)) in
     subst (Appends old new) (sym whole) (Appends-trans old mid new _ _ before line)
 
+-- and of all, where these are the rows
+pub all_rows : (f : Row → List ℕ) (rows : List Row) (from to i : ℕ) (whole : List Row) (old new : Option (List ℕ)) → i ≤ to → to ≤ i → between (from, to) rows ≡ whole
+    → Appends old new (flat_map f (between (from, i) rows)) → Appends old new (flat_map f whole)
+all_rows f rows from to i whole old new within past same lines =
+    let end : i ≡ to = omega (arith, within, past) in
+    subst (λ (rs : List Row). Appends old new (flat_map f rs)) (ap (λ k. between (from, k) rows) end ∙ same) lines
+
 -- a run is printed whole
-pub run_told : (trace : Trace) (members : ℕ) (given ids : List ℕ) (steps : List Step) (events : List Event) (run told : Seen) (old new : Option (List ℕ)) → given ≡ ids → told ≡ run
-    → IsStepRun members given steps events run → Appends old new (run_lines trace told) → PrintsSteps trace members ids steps old new
-run_told trace members given ids steps events run told old new is_ids same is_run lines = (events, run, rw is_ids at is_run, rw same at lines)
+pub run_told : (trace : Trace) (members : ℕ) (given ids : List ℕ) (entries : List Entry) (events : List Event) (run told : Seen) (old new : Option (List ℕ)) → given ≡ ids → told ≡ run
+    → IsStepRun members given entries events run → Appends old new (run_lines trace told) → PrintsSteps trace members ids entries old new
+run_told trace members given ids entries events run told old new is_ids same is_run lines = (events, run, rw is_ids at is_run, rw same at lines)
 
 -- lines of a run of a script that is read off a text are what the text prints
-pub script_printed : (trace : Trace) (known old new : Option (List ℕ)) (count : Members) (ids : List ℕ) (steps : List Step) → IfSome known (λ text. IsStepScript text count ids steps)
-    → PrintsSteps trace (member_count count) ids steps old new → PrintsScript trace known old new
-script_printed trace None old new count ids steps read prints = tt
-script_printed trace (Some text) old new count ids steps read prints = (count, ids, steps, read, prints)
+pub script_printed : (trace : Trace) (known old new : Option (List ℕ)) (count : Members) (ids : List ℕ) (entries : List Entry) → IfSome known (λ text. IsStepScript text count ids entries)
+    → PrintsSteps trace (member_count count) ids entries old new → PrintsScript trace known old new
+script_printed trace None old new count ids entries read prints = tt
+script_printed trace (Some text) old new count ids entries read prints = (count, ids, entries, read, prints)
 
 -- where a run went well, its script was printed
-pub plain_printed : {T E : Type 0} (trace : Trace) (r : Result T E) (known old new : Option (List ℕ)) (count : Members) (ids : List ℕ) (steps : List Step) → IfSome known (λ text. IsStepScript text count ids steps)
-    → OnOk r (PrintsSteps trace (member_count count) ids steps old new) → OnOk r (PrintsScript trace known old new)
-plain_printed trace (Err e) known old new count ids steps read prints = tt
-plain_printed trace (Ok x) known old new count ids steps read prints = script_printed trace known old new count ids steps read prints
+pub plain_printed : {T E : Type 0} (trace : Trace) (r : Result T E) (known old new : Option (List ℕ)) (count : Members) (ids : List ℕ) (entries : List Entry) → IfSome known (λ text. IsStepScript text count ids entries)
+    → OnOk r (PrintsSteps trace (member_count count) ids entries old new) → OnOk r (PrintsScript trace known old new)
+plain_printed trace (Err e) known old new count ids entries read prints = tt
+plain_printed trace (Ok x) known old new count ids entries read prints = script_printed trace known old new count ids entries read prints

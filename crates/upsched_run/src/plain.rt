@@ -16,7 +16,7 @@ use std::io::{Read, Write};
 use upsched_ends::{Fault, RunWords, Status, steps_of};
 use watched_runs::watch_steps;
 
-/// The script of the events that steps come to over nodes with records in memory.
+/// The script of the events that entries come to over nodes with records in memory.
 fn by_number<'a>(alloc: Global, script: StepScript) -> Result<Script, Fault<'a>>
     ensures same { IfOk result (λ plain. (plain.members ≡ script.members) × (plain.modems.items ≡ script.modems.items)) }
     ensures events { IfOk result (λ plain. ComeTo (member_count script.members) script.modems.items script.steps.items plain.events.items) }
@@ -78,8 +78,8 @@ fn print_by_number<'a, F: Read, O: Write>(
 }
 
 /// Runs a script over nodes with records in memory, and prints the script whose deliveries have the numbers of the
-/// letters that this one named. A letter that there wasn't is 2^63 - 1. A fault of the script is found before anything
-/// happens, and is told in one line.
+/// letters that this one named, and a delivery for each letter that came with others. A letter that there wasn't is
+/// 2^63 - 1. A fault of the script is found before anything happens, and is told in one line.
 pub fn plain_script<F: Read, O: Write, E: Write>(
     alloc: Global,
     script: &mut F,

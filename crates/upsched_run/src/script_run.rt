@@ -51,13 +51,13 @@ fn warn_of<R: Log>(rt: &R, number: usize, answer: Answer) {
 fn warn_of_run<R: Log>(rt: &R, run: &Watched<'_>) {
     for i in 0..run.len() {
         let row = run.row(i);
-        warn_of(rt, row.number, row.answer);
+        warn_of(rt, row.step, row.answer);
     }
 }
 
-/// What a script does to these fresh nodes is printed, as the lines of a run. Each step is the event that it means where
-/// it happens. The world is given back as the events left it: the promise of the printed lines holds where its nodes are
-/// honest.
+/// What a script does to these fresh nodes is printed, as the lines of a run. Each event of the script is what it means
+/// where it happens. The world is given back as the events left it: the promise of the printed lines holds where its
+/// nodes are honest.
 pub fn print_script<'a, R: Log + AllocGlobal, N: Node, O: Write>(
     rt: &R,
     nodes: Vec<N>,

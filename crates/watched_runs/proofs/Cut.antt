@@ -1,7 +1,7 @@
 -- Rows, cut from the lists of the world that a run left.
 use Rattle.std.proofs.Common.{◌≡◌, ◌<◌, ◌+◌, ℕ, zero, suc, List, [], ◌∷◌, ◌++◌, Option, refl, sym, ap, subst, ◌∙◌}
 use Rattle.std.proofs.Common.{length, take, drop, get_or, min, append_assoc, append-nil, take_at, arith}
-use Rattle.std.proofs.lemmas.List.{length-replicate, length-take-le, take_more}
+use Rattle.std.proofs.lemmas.List.{length-replicate}
 use Rattle.ballots.specs.declared.letters.Letter.{Letter}
 use Rattle.seats.specs.declared.answer.Answer.{Answer}
 use Rattle.seats.specs.declared.answer.ReleasedOutput.{ReleasedOutput}
@@ -18,7 +18,7 @@ use Rattle.watched_runs.specs.Sights.{sight}
 use Rattle.watched_runs.specs.declared.sight.Sight.{Sight}
 use Rattle.watched_runs.specs.declared.mark.Mark.{Mark}
 use Rattle.watched_runs.specs.declared.mark.Marks.{Marks}
-use Rattle.watched_runs.proofs.Growth.{Grown, grown}
+use Rattle.watched_runs.proofs.Growth.{Grown}
 
 -- one event has an answer
 pub one_at_least : {S : Type 0} (Step : S → Event → Answer → S → Type 0) (s s' : S) (event : Event) (report : List Answer) → Along Step s (event ∷ []) report s' → 0 < length report
@@ -43,31 +43,32 @@ rows_more n (e ∷ events) event (m ∷ marks) mark letters outputs same =
     let count : n + 1 + length events ≡ n + suc (length events) = omega arith in
     ap (λ rows. row_at n e m letters outputs ∷ rows) (rest ∙ ap (λ k. rows_from (n + 1) events marks letters outputs ++ row_at k event mark letters outputs ∷ []) count)
 
-goes_more : (members n : ℕ) (w mid w' : Written) (events : List Event) (rows : List Row) (event : Event) (row : Row) → GoesInRows members n w events rows mid → Next members mid event row.answer w'
-    → row ≡ row_of (n + length events) event row.answer mid w' → GoesInRows members n w (events ++ event ∷ []) (rows ++ row ∷ []) w'
+pub goes_more : (members n : ℕ) (w mid w' : Written) (events : List Event) (rows : List Row) (event : Event) (row : Row) → GoesInRows members n w events rows mid → Next members mid event row.answer w'
+    → row ≡ row_of (n + length events) row.step event row.answer mid w' → GoesInRows members n w (events ++ event ∷ []) (rows ++ row ∷ []) w'
 goes_more members n w mid w' [] [] event row is next cut =
     let begun : Next members w event row.answer w' = subst (λ (v : Written). Next members v event row.answer w') is next in
-    let first : row ≡ row_of n event row.answer w w' = cut ∙ ap (λ k. row_of k event row.answer mid w') (omega arith) ∙ ap (λ (v : Written). row_of n event row.answer v w') is in
+    let first : row ≡ row_of n row.step event row.answer w w' = cut ∙ ap (λ k. row_of k row.step event row.answer mid w') (omega arith) ∙ ap (λ (v : Written). row_of n row.step event row.answer v w') is in
     (w', begun, first, refl)
 goes_more members n w mid w' [] (r ∷ rows) event row goes next cut = absurd goes
 goes_more members n w mid w' (e ∷ events) [] event row goes next cut = absurd goes
 goes_more members n w mid w' (e ∷ events) (r ∷ rows) event row (between, first, is, goes) next cut =
     let count : n + suc (length events) ≡ n + 1 + length events = omega arith in
-    (between, first, is, goes_more members (n + 1) between mid w' events rows event row goes next (cut ∙ ap (λ k. row_of k event row.answer mid w') count))
+    (between, first, is, goes_more members (n + 1) between mid w' events rows event row goes next (cut ∙ ap (λ k. row_of k row.step event row.answer mid w') count))
 
 -- what was there comes first of what there is, and what is more comes behind it
 pub front_of : {A : Type 0} (xs ys more zs : List A) → ys ≡ xs ++ more → take (length xs) (ys ++ zs) ≡ xs
 front_of xs ys more zs is = ap (λ l. take (length xs) (l ++ zs)) is ∙ ap (take (length xs)) (append_assoc xs more zs) ∙ take_at xs (more ++ zs) (length xs) refl
 
 -- the row that is cut for an event is that of the worlds before and behind it
-row_cut : (n : ℕ) (event : Event) (a : Answer) (w w' : Written) (ls : List Letter) (os : List ReleasedOutput) → Grown w w'
-    → row_at n event (noted event a w w') (w'.letters ++ ls) (w'.outputs ++ os) ≡ row_of n event a w w'
-row_cut n event a w w' ls os more =
+row_cut : (n step : ℕ) (event : Event) (a : Answer) (w w' : Written) (ls : List Letter) (os : List ReleasedOutput) → Grown w w'
+    → row_at n event (noted step event a w w') (w'.letters ++ ls) (w'.outputs ++ os) ≡ row_of n step event a w w'
+row_cut n step event a w w' ls os more =
     let before : take (length w.letters) (w'.letters ++ ls) ≡ w.letters = front_of w.letters w'.letters more.letters ls more.sent in
     let sent : take (length w'.letters) (w'.letters ++ ls) ≡ w'.letters = take_at w'.letters ls (length w'.letters) refl in
     let released : take (length w'.outputs) (w'.outputs ++ os) ≡ w'.outputs = take_at w'.outputs os (length w'.outputs) refl in
     λ i. record {
       number = n;
+      step = step;
       event = event;
       answer = a;
       came = came_by (before i) event;
@@ -80,66 +81,29 @@ row_cut n event a w w' ls os more =
 abbrev pub AreCut : List Event → List Mark → Written → List Row → Type 0
 AreCut events marks w rows = (ls : List Letter) (os : List ReleasedOutput) → rows_from 0 events marks (w.letters ++ ls) (w.outputs ++ os) ≡ rows
 
--- the rows so far, and that of the event at an index
-pub record Cut (members : ℕ) (w : Written) (events : List Event) (marks : List Mark) (w' : Written) : Type 0 where
-  pub rows : List Row
-  pub goes : GoesInRows members 0 w events rows w'
-  pub cut : AreCut events marks w' rows
-
-pub none_cut : (members : ℕ) (w : Written) (events : List Event) (marks : List Mark) → marks ≡ [] → Cut members w (take 0 events) marks w
-none_cut members w events marks none = record { rows = []; goes = refl; cut = λ ls os. refl }
-
--- and of one event more behind all
-pub cut_more : (members : ℕ) (w mid w' : Written) (events : List Event) (event : Event) (marks : List Mark) (mark : Mark) → length marks ≡ length events
-    → (before : Cut members w events marks mid) → Next members mid event mark.answer w' → mark ≡ noted event mark.answer mid w'
-    → (now : Cut members w (events ++ event ∷ []) (marks ++ mark ∷ []) w') × (now.rows ≡ before.rows ++ row_of (length events) event mark.answer mid w' ∷ [])
-cut_more members w mid w' events event marks mark size before next is_noted =
-    let row : Row = row_of (length events) event mark.answer mid w' in
-    let more : Grown mid w' = grown members mid w' event mark.answer next in
-    let number : length events ≡ 0 + length events = omega arith in (
-      record {
-        rows = before.rows ++ row ∷ [];
-        goes = goes_more members 0 w mid w' events before.rows event row before.goes next (ap (λ k. row_of k event mark.answer mid w') number);
-        cut = λ ls os.
-            let letters : w'.letters ++ ls ≡ mid.letters ++ (more.letters ++ ls) = ap (λ l. l ++ ls) more.sent ∙ append_assoc mid.letters more.letters ls in
-            let outputs : w'.outputs ++ os ≡ mid.outputs ++ (more.outputs ++ os) = ap (λ l. l ++ os) more.released ∙ append_assoc mid.outputs more.outputs os in
-            let earlier : rows_from 0 events marks (w'.letters ++ ls) (w'.outputs ++ os) ≡ before.rows =
-            ap (λ l. rows_from 0 events marks l (w'.outputs ++ os)) letters
-            ∙ ap (λ o. rows_from 0 events marks (mid.letters ++ (more.letters ++ ls)) o) outputs
-            ∙ before.cut (more.letters ++ ls) (more.outputs ++ os) in
-            let last : row_at (0 + length events) event mark (w'.letters ++ ls) (w'.outputs ++ os) ≡ row =
-            ap (λ k. row_at k event mark (w'.letters ++ ls) (w'.outputs ++ os)) (sym number)
-            ∙ ap (λ (m : Mark). row_at (length events) event m (w'.letters ++ ls) (w'.outputs ++ os)) is_noted
-            ∙ row_cut (length events) event mark.answer mid w' ls os more in
-            rows_more 0 events event marks mark (w'.letters ++ ls) (w'.outputs ++ os) (sym size)
-            ∙ (λ j. earlier j ++ last j ∷ []);
-      },
-      refl,
-    )
-
-pub one_cut : (members : ℕ) (w mid w' : Written) (events : List Event) (i : ℕ) (event : Event) (marks : List Mark) (mark : Mark) → i < length events → event ≡ get_or events i event → length marks ≡ i
-    → Cut members w (take i events) marks mid → Next members mid event mark.answer w' → mark ≡ noted event mark.answer mid w' → Cut members w (take (i + 1) events) (marks ++ mark ∷ []) w'
-one_cut members w mid w' events i event marks mark lt is size before next is_noted =
-    let count : length (take i events) ≡ i = length-take-le i events (omega (arith, lt)) in
-    let whole : take (i + 1) events ≡ take i events ++ event ∷ [] = take_more events i event lt ∙ ap (λ (e : Event). take i events ++ e ∷ []) (sym is) in
-    subst (λ (es : List Event). Cut members w es (marks ++ mark ∷ []) w') (sym whole)
-    (cut_more members w mid w' (take i events) event marks mark (size ∙ sym count) before next is_noted).0
-
--- all rows
-pub all_cut : (members : ℕ) (w w' : Written) (events : List Event) (i : ℕ) (marks : List Mark) → take i events ≡ events → Cut members w (take i events) marks w'
-    → GoesInRows members 0 w events (rows_from 0 events marks w'.letters w'.outputs) w'
-all_cut members w w' events i marks whole all =
-    let lists : rows_from 0 (take i events) marks w'.letters w'.outputs ≡ all.rows =
-    ap (λ l. rows_from 0 (take i events) marks l w'.outputs) (sym (append-nil w'.letters))
-    ∙ ap (λ o. rows_from 0 (take i events) marks (w'.letters ++ []) o) (sym (append-nil w'.outputs)) ∙ all.cut [] [] in
-    let goes : GoesInRows members 0 w (take i events) (rows_from 0 (take i events) marks w'.letters w'.outputs) w' =
-    subst (λ (rows : List Row). GoesInRows members 0 w (take i events) rows w') (sym lists) all.goes in
-    subst (λ (es : List Event). GoesInRows members 0 w es (rows_from 0 es marks w'.letters w'.outputs) w') whole goes
+-- of one event more
+pub cut_more : (w w' : Written) (events : List Event) (event : Event) (marks : List Mark) (mark : Mark) (step : ℕ) (rows : List Row) → length marks ≡ length events
+    → AreCut events marks w rows → Grown w w' → mark ≡ noted step event mark.answer w w' → AreCut (events ++ event ∷ []) (marks ++ mark ∷ []) w' (rows ++ row_of (length events) step event mark.answer w w' ∷ [])
+cut_more mid w' events event marks mark step rows size before more is_noted = λ ls os.
+    let row : Row = row_of (length events) step event mark.answer mid w' in
+    let number : length events ≡ 0 + length events = omega arith in
+    let letters : w'.letters ++ ls ≡ mid.letters ++ (more.letters ++ ls) = ap (λ l. l ++ ls) more.sent ∙ append_assoc mid.letters more.letters ls in
+    let outputs : w'.outputs ++ os ≡ mid.outputs ++ (more.outputs ++ os) = ap (λ l. l ++ os) more.released ∙ append_assoc mid.outputs more.outputs os in
+    let earlier : rows_from 0 events marks (w'.letters ++ ls) (w'.outputs ++ os) ≡ rows =
+    ap (λ l. rows_from 0 events marks l (w'.outputs ++ os)) letters
+    ∙ ap (λ o. rows_from 0 events marks (mid.letters ++ (more.letters ++ ls)) o) outputs
+    ∙ before (more.letters ++ ls) (more.outputs ++ os) in
+    let last : row_at (0 + length events) event mark (w'.letters ++ ls) (w'.outputs ++ os) ≡ row =
+    ap (λ k. row_at k event mark (w'.letters ++ ls) (w'.outputs ++ os)) (sym number)
+    ∙ ap (λ (m : Mark). row_at (length events) event m (w'.letters ++ ls) (w'.outputs ++ os)) is_noted
+    ∙ row_cut (length events) step event mark.answer mid w' ls os more in
+    rows_more 0 events event marks mark (w'.letters ++ ls) (w'.outputs ++ os) (sym size)
+    ∙ (λ j. earlier j ++ last j ∷ [])
 
 -- what is noted, part by part
-pub noted_so : (event : Event) (a : Answer) (w w' : Written) (l l' o o' : ℕ) (seen : Option Sight) → l ≡ length w.letters → l' ≡ length w'.letters → o ≡ length w.outputs → o' ≡ length w'.outputs
-    → seen ≡ sight event w w' → record { answer = a; letters = (l, l'); outputs = (o, o'); sight = seen } ≡ noted event a w w'
-noted_so event a w w' l l' o o' seen is_l is_l' is_o is_o' is_seen = λ i. record { answer = a; letters = (is_l i, is_l' i); outputs = (is_o i, is_o' i); sight = is_seen i }
+pub noted_so : (step : ℕ) (event : Event) (a : Answer) (w w' : Written) (l l' o o' : ℕ) (seen : Option Sight) → l ≡ length w.letters → l' ≡ length w'.letters → o ≡ length w.outputs → o' ≡ length w'.outputs
+    → seen ≡ sight event w w' → record { step = step; answer = a; letters = (l, l'); outputs = (o, o'); sight = seen } ≡ noted step event a w w'
+noted_so step event a w w' l l' o o' seen is_l is_l' is_o is_o' is_seen = λ i. record { step = step; answer = a; letters = (is_l i, is_l' i); outputs = (is_o i, is_o' i); sight = is_seen i }
 
 -- ---- a row by its number
 

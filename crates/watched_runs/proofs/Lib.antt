@@ -2,3 +2,4 @@ mod Seeing
 mod Growth
 mod Cut
 mod Followed
+pub mod Stages

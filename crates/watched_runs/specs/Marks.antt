@@ -18,6 +18,7 @@ between bounds items = drop bounds.0 (take bounds.1 items)
 abbrev pub row_at : ℕ → Event → Mark → List Letter → List ReleasedOutput → Row
 row_at n event mark letters outputs = record {
   number = n;
+  step = mark.step;
   event = event;
   answer = mark.answer;
   came = came_by (take mark.letters.0 letters) event;
@@ -32,9 +33,10 @@ rows_from n [] marks letters outputs = []
 rows_from n (event ∷ events) [] letters outputs = []
 rows_from n (event ∷ events) (mark ∷ marks) letters outputs = row_at n event mark letters outputs ∷ rows_from (n + 1) events marks letters outputs
 
--- what is noted of an event between one world and the next
-abbrev pub noted : Event → Answer → (w w' : Written) → Mark
-noted event answer w w' = record {
+-- what is noted of an event of this number between one world and the next
+abbrev pub noted : ℕ → Event → Answer → (w w' : Written) → Mark
+noted step event answer w w' = record {
+  step = step;
   answer = answer;
   letters = (length w.letters, length w'.letters);
   outputs = (length w.outputs, length w'.outputs);
@@ -45,6 +47,7 @@ noted event answer w w' = record {
 abbrev pub seen_in : List Event → Marks → Written → Seen
 seen_in events marks w = record {
   rows = rows_from 0 events marks.marks.items w.letters w.outputs;
+  stages = marks.stages.items;
   letters = w.letters;
   outputs = w.outputs;
   transmissions = w.transmissions;

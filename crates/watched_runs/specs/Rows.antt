@@ -9,12 +9,14 @@ use Rattle.seats.specs.declared.answer.Transmission.{Transmission}
 use Rattle.network_script.specs.Next.{Next}
 use Rattle.network_script.specs.World.{Written, opening}
 use Rattle.watched_runs.specs.Sights.{sight}
+use Rattle.watched_runs.specs.declared.mark.Stage.{Stage}
 use Rattle.watched_runs.specs.declared.sight.Sight.{Sight}
 
--- an event of a run: its number, what it did, the letter that it delivers, the letters and the outputs that it brought,
+-- an event of a run: its number, that of the script's event that brought it, what it did, the letter that it delivers, the letters and the outputs that it brought,
 -- and what is seen of the node that it asks; letters are numbered from a number on
 pub record Row : Type 0 where
   pub number : ℕ
+  pub step : ℕ
   pub event : Event
   pub answer : Answer
   pub came : ℕ × List Letter
@@ -22,9 +24,10 @@ pub record Row : Type 0 where
   pub released : List ReleasedOutput
   pub sight : Option Sight
 
--- a run: its rows, and the letters, outputs and transmissions that it left
+-- a run: its rows, which of them each event of the script brought, and the letters, outputs and transmissions that it left
 pub record Seen : Type 0 where
   pub rows : List Row
+  pub stages : List Stage
   pub letters : List Letter
   pub outputs : List ReleasedOutput
   pub transmissions : List Transmission
@@ -36,9 +39,10 @@ came_by sent (DeliverThenCrash i) = (i, take 1 (drop i sent))
 came_by sent other = (0, [])
 
 -- the row of an event between one world and the next: what it brought is what the next world has more
-abbrev pub row_of : ℕ → Event → Answer → (w w' : Written) → Row
-row_of n event answer w w' = record {
+abbrev pub row_of : (number step : ℕ) → Event → Answer → (w w' : Written) → Row
+row_of n step event answer w w' = record {
   number = n;
+  step = step;
   event = event;
   answer = answer;
   came = came_by w.letters event;
@@ -51,7 +55,7 @@ row_of n event answer w w' = record {
 abbrev pub GoesInRows : (members n : ℕ) → Written → List Event → List Row → Written → Type 0
 GoesInRows members n w [] [] w' = w' ≡ w
 GoesInRows members n w (event ∷ events) (row ∷ rows) w' =
-    (mid : Written) × Next members w event row.answer mid × (row ≡ row_of n event row.answer w mid) × GoesInRows members (n + 1) mid events rows w'
+    (mid : Written) × Next members w event row.answer mid × (row ≡ row_of n row.step event row.answer w mid) × GoesInRows members (n + 1) mid events rows w'
 GoesInRows members n w events rows w' = ⊥
 
 -- over so many fresh nodes and new modems of these ids the events may happen so, and leave a world with these lists

@@ -11,6 +11,7 @@ numbered l = (l.first, l.letters.now)
 abbrev pub shown : RowInCode → Row
 shown row = record {
   number = row.number;
+  step = row.step;
   event = row.event.now;
   answer = row.answer;
   came = numbered row.came;

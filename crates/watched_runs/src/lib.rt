@@ -4,6 +4,7 @@
 #![tactic(auto)]
 
 mod counting;
+mod course;
 mod mark;
 mod post;
 mod row;
@@ -14,11 +15,10 @@ mod watched;
 mod watching;
 
 pub use counting::choices;
-pub use mark::Marks;
+pub use mark::{Marks, Stage};
 pub use post::Post;
 pub use row::{Letters, Row};
 pub use sight::Sight;
 pub use stepping::{plain_steps, step_runs, watch_steps};
 pub use texts::post_text;
 pub use watched::Watched;
-pub use watching::watch;

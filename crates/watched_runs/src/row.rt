@@ -20,6 +20,8 @@ pub struct Letters<'a> {
 pub struct Row<'a> {
     /// Its number: the first event of a run is event 0.
     pub number: usize,
+    /// The number of the event of the script that brought it: the first one is event 0.
+    pub step: usize,
     pub event: &'a Event,
     /// What it did.
     pub answer: Answer,

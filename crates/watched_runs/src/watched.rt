@@ -1,11 +1,11 @@
 //! A run that was watched, in rows.
 
-ghost use Rattle.std.specs.Prelude.{◌≡◌, ◌<◌, take, drop, get_or, length};
+ghost use Rattle.std.specs.Prelude.{◌≡◌, ◌<◌, ◌≤◌, take, drop, get_or, length};
 ghost use Rattle.watched_runs.specs.Marks.{between, row_at};
 ghost use Rattle.watched_runs.specs.Rows.{came_by};
 ghost use Rattle.watched_runs.specs.Shown.{numbered, shown};
 
-use crate::mark::{Mark, Marks};
+use crate::mark::{Mark, Marks, Stage};
 use crate::row::{Letters, Row};
 use ballots::Letter;
 use network_script::World;
@@ -75,6 +75,7 @@ fn row_at<'a>(
 {
     Row {
         number,
+        step: mark.step,
         event,
         answer: mark.answer,
         came: came_by(event, first_of(letters, mark.letters.0)),
@@ -103,6 +104,7 @@ fn mark_at(marks: &[Mark], i: usize) -> Mark
 pub struct Watched<'a> {
     events: &'a [Event],
     marks: &'a [Mark],
+    stages: &'a [Stage],
     letters: &'a [Letter],
     outputs: &'a [ReleasedOutput],
     transmissions: &'a [Transmission],
@@ -116,6 +118,7 @@ impl<'a> Model for Watched<'a> {
 
     ghost view = { λ w. record {
       rows = rows_from 0 w.events.now w.marks.now w.letters.now w.outputs.now;
+      stages = w.stages.now;
       letters = w.letters.now;
       outputs = w.outputs.now;
       transmissions = w.transmissions.now;
@@ -134,6 +137,7 @@ impl Marks {
         Watched {
             events,
             marks: self.marks.as_slice(),
+            stages: self.stages.as_slice(),
             letters: world.letters(),
             outputs: world.outputs(),
             transmissions: world.transmissions(),
@@ -157,6 +161,23 @@ impl<'a> Watched<'a> {
         let event = event_at(self.events, i);
         let mark = mark_at(self.marks, i);
         row_at(i, event, mark, self.letters, self.outputs)
+    }
+
+    /// Which rows each event of the script brought, in order.
+    pub fn stages(&self) -> &'a [Stage]
+        ensures { result.now ≡ self.now.stages }
+    {
+        self.stages
+    }
+
+    /// Which rows a stage has: those from a number on, and before another one, of the rows that there are.
+    pub fn rows_of(&self, stage: &Stage) -> (usize, usize)
+        ensures order { result.0 ≤ result.1 }
+        ensures within { result.1 ≤ length self.now.rows }
+        ensures same { between result self.now.rows ≡ between (stage.now.from, stage.now.to) self.now.rows }
+    {
+        let to = stage.to.min(self.len());
+        (stage.from.min(to), to)
     }
 
     /// Every letter that was sent up to the run's end, in order.

@@ -1,23 +1,18 @@
-//! Events that happen in a world, one after another, and what is noted of each.
+//! An event that happens in a world, and what is noted of it.
 
-ghost use Rattle.std.specs.Prelude.{◌≡◌, ◌<◌, get_or, length, map, IfOk};
+ghost use Rattle.std.specs.Prelude.{◌≡◌, ◌<◌, get_or, length, IfOk};
 ghost use Rattle.network_script.specs.Next.{Next};
 ghost use Rattle.network_script.specs.World.{Written};
 ghost use Rattle.network_script.specs.Worlds.{AreHonest, StandsFor, node_count};
-ghost use Rattle.watched_runs.specs.Marks.{noted, seen_in};
-ghost use Rattle.seats.specs.Fresh.{AreFresh};
-ghost use Rattle.seats.specs.Receiving.{AreNew};
-ghost use Rattle.watched_runs.specs.Rows.{GoesInRows, IsRun};
+ghost use Rattle.watched_runs.specs.Marks.{noted};
 ghost use Rattle.watched_runs.specs.Sights.{sight, sight_of};
 
-use crate::mark::{Mark, Marks};
+use crate::mark::Mark;
 use crate::post::changed;
 use crate::sight::{Sight, asked_node, knows, newly, place_of, post_at};
-use modem::Modem;
 use network_script::World;
 use node::Node;
 use seats::{Answer, OutOfMemory, Report};
-use std::alloc::Global;
 use std::slice;
 use world_events::Event;
 
@@ -87,56 +82,25 @@ fn step<N: Node>(
     }
 }
 
-/// One event, and what is noted of it.
-pub(crate) fn note<N: Node>(world: &mut World<N>, event: &Event) -> Result<Mark, OutOfMemory>
+/// One event of this number in its script, and what is noted of it.
+pub(crate) fn note<N: Node>(
+    world: &mut World<N>,
+    number: usize,
+    event: &Event,
+) -> Result<Mark, OutOfMemory>
     ensures honesty { AreHonest world.new → AreHonest world.old }
     ensures members { node_count world.new ≡ node_count world.old }
     ensures run { IfOk result (λ mark. AreHonest world.new → (w : Written) → StandsFor world.old w →
-        (w' : Written) × Next (length w.nodes) w event.now mark.answer w' × StandsFor world.new w' × (mark ≡ noted event.now mark.answer w w')) }
+        (w' : Written) × Next (length w.nodes) w event.now mark.answer w' × StandsFor world.new w' × (mark ≡ noted number event.now mark.answer w w')) }
 {
     let letters = world.letters().len();
     let outputs = world.outputs().len();
     let (answer, sight) = step(world, event)?;
     Ok(Mark {
+        step: number,
         answer,
         letters: (letters, world.letters().len()),
         outputs: (outputs, world.outputs().len()),
         sight,
     })
-}
-
-/// The events one after another, and what is noted of each. Want of memory may come between two of them.
-fn note_all<N: Node>(
-    alloc: Global,
-    world: &mut World<N>,
-    events: &[Event],
-) -> Result<Marks, OutOfMemory>
-    ensures honesty { AreHonest world.new → AreHonest world.old }
-    ensures run { IfOk result (λ marks. AreHonest world.new → (w : Written) → StandsFor world.old w →
-        (w' : Written) × GoesInRows (length w.nodes) 0 w events.now (seen_in events.now marks w').rows w' × StandsFor world.new w') }
-{
-    let mut marks = Vec::with_capacity(alloc, events.len())?;
-    for event in events {
-        marks.push(note(world, event)?)?;
-    }
-    Ok(Marks { marks })
-}
-
-/// The events happen to fresh nodes and new modems. The world is given back as they left it, with what was noted of
-/// them, which gives the run (`over`): what is promised of it holds where the nodes of that world are honest. The fault
-/// is want of memory.
-pub fn watch<N: Node>(
-    alloc: Global,
-    nodes: Vec<N>,
-    modems: Vec<Modem>,
-    events: &[Event],
-) -> Result<(Marks, World<N>), OutOfMemory>
-    requires nodes { AreFresh N.who N.honest N.stands nodes.items }
-    requires modems { AreNew modems.items }
-    ensures { IfOk result (λ left. AreHonest left.1 → (w : Written) × StandsFor left.1 w
-        × IsRun (length nodes.items) (map (λ modem. modem.id) modems.items) events.now (seen_in events.now left.0 w)) }
-{
-    let mut world = World::new(alloc, nodes, modems)?;
-    let marks = note_all(alloc, &mut world, events)?;
-    Ok((marks, world))
 }

@@ -6,5 +6,5 @@ use Rattle.text_faults.proofs.unread.note_members.Given as goal
 
 abbrev pub invariant-loop-key : goal.invariant-loop-key
 invariant-loop-key l =
-    map key_there l.unread.items ++ unread_keys l.place l.told l.kinds (table (members_view l.key-iterator))
-    ≡ map key_there l.fn.unread.items ++ unread_keys l.place l.told l.kinds (table (members_view l.members.entries))
+    map key_there l.unread.items ++ unread_keys l.told.place l.told.kind l.kinds (table (members_view l.key-iterator))
+    ≡ map key_there l.fn.unread.items ++ unread_keys l.told.place l.told.kind l.kinds (table (members_view l.members.entries))

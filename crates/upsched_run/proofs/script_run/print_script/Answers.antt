@@ -1,4 +1,4 @@
-use Rattle.std.proofs.Common.{◌≡◌, ◌∙◌, ap, List, length}
+use Rattle.std.proofs.Common.{◌∙◌, ap, List, length}
 use Rattle.watched_runs.specs.Marks.{seen_in}
 use Rattle.world_events.specs.declared.event.Event.{Event}
 use Rattle.upsched_run.proofs.Told.{run_told}

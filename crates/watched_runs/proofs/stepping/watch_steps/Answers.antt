@@ -9,5 +9,5 @@ returns g c = λ honest.
     let members : ℕ = length c.args.nodes.items in
     let ids : List ℕ = map {A = State} {B = ℕ} (λ modem. modem.id) c.args.modems.items in
     let went = c.in_ok-events.ensures.run honest (opening members ids) (c.in_ok-world.ensures.opens (c.in_ok-events.ensures.honesty honest)) refl in
-    let run = step_run members ids c.args.steps.items c.in_ok-events.events.items c.in_ok-events.marks went.0 went.1 in
+    let run = step_run members ids c.args.entries.items c.in_ok-events.events.items c.in_ok-events.marks went.0 went.1 in
     (went.0, went.2, run.0, run.1)

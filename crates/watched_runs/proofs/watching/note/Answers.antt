@@ -8,6 +8,6 @@ returns-clause-run g c = λ honest w stands.
       went.0,
       went.1,
       went.2,
-      noted_so c.args.event.now _ w went.0 _ _ _ _ _ (ap length (c.letters-letters.ensures.written w stands)) (ap length (c.letters.ensures.written went.0 went.2))
+      noted_so c.args.number c.args.event.now _ w went.0 _ _ _ _ _ (ap length (c.letters-letters.ensures.written w stands)) (ap length (c.letters.ensures.written went.0 went.2))
           (ap length (c.outputs-outputs.ensures.written w stands)) (ap length (c.outputs.ensures.written went.0 went.2)) went.3,
     )
