@@ -2,8 +2,10 @@
 use Rattle.std.proofs.Common.{◌≡◌, ◌≢◌, ◌⊎◌, inl, inr, ℕ, true, false, Bool, List, [], ◌∷◌, Option, Some, None, IsSome}
 use Rattle.std.proofs.Common.{IsTrue, arith, length, refl, slice_get, sym, subst, ap, ◌∙◌}
 use Rattle.std.specs.Prelude.{codes}
-use Rattle.acceptor_store.proofs.Words.{AreTablesFor, Blank, Content, FailsAnew, First, Foreign, Ghosts, HadAs, HadBefore}
-use Rattle.acceptor_store.proofs.Words.{HasFacts, Held, IsBroken, IsDue, IsDueBefore, IsRefused, IsRefusedFor, IsUnowned}
+use Rattle.acceptor_store.proofs.Words.{AreTablesFor, Blank, Content, FailsAnew, First, Foreign, Ghosts, HadAs}
+use Rattle.acceptor_store.proofs.Words.{HadBefore}
+use Rattle.acceptor_store.proofs.Words.{HasFacts, Held, IsBroken, IsDue, IsDueBefore, IsRefused, IsRefusedFor}
+use Rattle.acceptor_store.proofs.Words.{IsUnowned}
 use Rattle.acceptor_store.proofs.Words.{Names, Open, OtherMembers, OtherNode, OwnedBy, Owner, OwnerFault}
 use Rattle.acceptor_store.proofs.Words.{Third, Trees, Unowned, Version, blank_schema, owner_bytes, schema_of}
 use Rattle.acceptor_store.proofs.Words.{state}

@@ -111,6 +111,18 @@ impl<W: WriteStore> BatchedSeat<W> {
         &self.store
     }
 
+    /// The store, where the node is let go.
+    pub fn into_store(self) -> W
+        ensures { result ≡ self.store }
+    {
+        let BatchedSeat {
+            seat: _,
+            store,
+            waiting: _,
+        } = self;
+        store
+    }
+
     /// The node does what it is asked, and the write of that waits.
     pub(crate) fn obey(&mut self, asked: &Request) -> Acted
         requires up { is_up self.old.seat ≡ true }

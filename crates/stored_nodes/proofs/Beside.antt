@@ -47,7 +47,7 @@ pub started_beside : {N : Type 0} (who : N → Who) (stands : N → Standing →
     → (IsTrue honest → FindsSame before held)
     → (who node).id ≡ number → (who node).members ≡ count → (who node).down ≡ false
     → (IsTrue is_new → copy ≡ no_content) → stands node (Running (started copy)) → ((view : View) → stands node (Running view) → view.content ≡ copy)
-    → HasStartedBeside who stands honest held (found false) count number is_new node
+    → HasStartedBeside who stands honest held found count number is_new node
 started_beside who stands honest before held found count number is_new node copy opened copied sound kept id members up new over same =
     let earlier : IsTrue honest → (c : Content) → Holds held c → Holds before c = λ is c holds. holds_same held before c (λ d. let both = kept is d in (both.1, both.0)) holds in
     record {
@@ -58,7 +58,7 @@ started_beside who stands honest before held found count number is_new node copy
           let it = opened is in
           let equal = copied is it.0 it.1 in (
             it.0,
-            ((λ begins. sym equal ∙ new begins), λ old. subst (λ b. found b it.0) old it.2),
+            ((λ begins. sym equal ∙ new begins), it.2),
             holds_same before held it.0 (kept is) it.1,
             subst (λ c. stands node (Running (started c))) equal over,
           );
@@ -67,19 +67,19 @@ started_beside who stands honest before held found count number is_new node copy
     }
 
 -- it has started, whatever was found
-pub beside_anyhow : {N : Type 0} {who : N → Who} {stands : N → Standing → Type 0} {honest : Bool} {held : Findable} {found : Content → Type 0} {count number : ℕ} {is_new : Bool} {node : N}
-    → HasStartedBeside who stands honest held found count number is_new node → HasStartedBeside who stands honest held (λ _. Unit {0}) count number is_new node
+pub beside_anyhow : {N : Type 0} {who : N → Who} {stands : N → Standing → Type 0} {honest : Bool} {held : Findable} {found : Bool → Content → Type 0} {count number : ℕ} {is_new : Bool} {node : N}
+    → HasStartedBeside who stands honest held found count number is_new node → HasStartedBeside who stands honest held (λ _ _. Unit {0}) count number is_new node
 beside_anyhow it = record {
   id = it.id;
   members = it.members;
   up = it.up;
-  over = λ is. let had = it.over is in (had.0, (had.1.0, λ _. tt), had.2, had.3);
+  over = λ is. let had = it.over is in (had.0, (had.1.0, tt), had.2, had.3);
   same = it.same;
   sound = it.sound;
 }
 
 -- what its use promises of it comes of its start
-pub comes_of_beside : {N A : Type 0} {who : N → Who} {stands : N → Standing → Type 0} {honest : Bool} {held : Findable} {found : Content → Type 0} {count number : ℕ} {is_new : Bool} {node : N} (comes : Option Content → A → Type 0) (answer : A)
+pub comes_of_beside : {N A : Type 0} {who : N → Who} {stands : N → Standing → Type 0} {honest : Bool} {held : Findable} {found : Bool → Content → Type 0} {count number : ℕ} {is_new : Bool} {node : N} (comes : Option Content → A → Type 0) (answer : A)
     → HasStartedBeside who stands honest held found count number is_new node → ((IsTrue honest → ⊥) → comes None answer) → (IsTrue honest → (c : Content) → stands node (Running (started c)) → comes (Some c) answer)
     → ComesOfStart comes found is_new answer
 comes_of_beside {who = who} {stands = stands} {honest = honest} {found = found} {count = count} {number = number} {is_new = is_new} {node = node} comes answer it lies tells =

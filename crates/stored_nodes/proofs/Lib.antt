@@ -2,4 +2,5 @@ mod Counts
 mod Opened
 mod Told
 mod Started
+mod Copying
 mod Beside

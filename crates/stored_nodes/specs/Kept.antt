@@ -14,11 +14,14 @@ use Rattle.sqlite_disk.specs.declared.Files.{Files}
 use Rattle.sqlite_store.specs.declared.store.FileStore.{FileStore}
 use Rattle.sqlite_store.specs.FileStore.{recovers}
 
--- the trees are this owner's tables of the content, which a node wrote, or those of a database without tables, where it
--- may be new and the content is none
+-- the trees are this owner's tables of the content, which a node wrote
+abbrev pub IsOwnedAs : Owner → Trees → Content → Type 0
+IsOwnedAs owner db c = AreTablesFor (Some owner) db c × IsOfNode c
+
+-- the same, or they are those of a database without tables, where it may be new and the content is none
 abbrev pub IsKeptFor : Owner → Bool → Trees → Content → Type 0
 IsKeptFor owner is_new db c =
-    (AreTablesFor (Some owner) db c × IsOfNode c) ⊎ (IsDatabase (record { schema = blank_schema; trees = db }) × (is_new ≡ true) × (c ≡ no_content))
+    IsOwnedAs owner db c ⊎ (IsDatabase (record { schema = blank_schema; trees = db }) × (is_new ≡ true) × (c ≡ no_content))
 
 -- a database that the files hold is this owner's with the content, or may be new and has none
 abbrev pub IsOwnedIn : {D : Type 0} → disk.Ghosts D → Files D → Owner → Bool → Content → Type 0

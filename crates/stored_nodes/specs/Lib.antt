@@ -1,3 +1,4 @@
+pub mod Alone
 pub mod Faults
 pub mod Kept
 pub mod Lost

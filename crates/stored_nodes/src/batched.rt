@@ -6,12 +6,13 @@ ghost use Rattle.acceptor_store.specs.Linked.{IsHonest, MayFind, is_honest};
 ghost use Rattle.ballots.specs.Members.{member_count};
 ghost use Rattle.node.specs.View.{View, started};
 ghost use Rattle.node.specs.View.Standing.{Running};
-ghost use Rattle.stored_nodes.specs.Kept.{IsFoundFor};
+ghost use Rattle.stored_nodes.specs.Alone.{IsBegunIn};
 ghost use Rattle.stored_nodes.specs.Starts.{ComesOfStart, HasStartedBeside};
 
 use crate::fresh::{begun_with, resumed_with};
 use crate::opens::OpensRecords;
 use crate::own_file::{FilesAt, files_of};
+use crate::refusals::CountsRefusals;
 use crate::start::StartFault;
 use acceptor::{PlainRecords, RecordsFault};
 use acceptor_store::SqlRecords;
@@ -20,7 +21,6 @@ use node::{Node, NodeFault, SchedNode};
 use sqlite::{File, Files};
 use sqlite_disk::Disk;
 use std::alloc::Global;
-use store_anew::OpensAnew;
 
 /// What is done with a node that has started in memory over what its own files hold, and with the records of these
 /// files, which nobody else writes.
@@ -33,7 +33,7 @@ pub trait BatchedUse: Drop {
     ghost comes: { Self → ℕ → ℕ → Bool → Option Content → Self.Answer → Type 0 } = { λ _ _ _ _ _ _. ⊤ };
 
     /// Uses a node, which is this member and is new or goes on, and the records of its files, which hold what it holds.
-    fn use_batched<S: OpensAnew>(
+    fn use_batched<S: CountsRefusals>(
         self,
         node: SchedNode<PlainRecords>,
         store: SqlRecords<S>,
@@ -41,7 +41,7 @@ pub trait BatchedUse: Drop {
         is_new: bool,
     ) -> Self::Answer
         requires { HasStartedBeside ⟦<SchedNode<PlainRecords> as Node>⟧.who ⟦<SchedNode<PlainRecords> as Node>⟧.stands (is_honest S.Store store)
-            (MayFind S.Store store.owner store.held) (λ _. ⊤) (member_count member.1) member.0 is_new node }
+            (MayFind S.Store store.owner store.held) (λ _ _. ⊤) (member_count member.1) member.0 is_new node }
         ensures lies { (IsHonest S.Store store → ⊥) → comes self member.0 (member_count member.1) is_new None result }
         ensures tells { IsHonest S.Store store → (c : Content) → ⟦<SchedNode<PlainRecords> as Node>⟧.stands node (Running (started c))
             → comes self member.0 (member_count member.1) is_new (Some c) result };
@@ -83,7 +83,7 @@ fn started_beside<F: OpensRecords>(
 ) -> Result<(SchedNode<PlainRecords>, SqlRecords<F::Base>), StartFault>
     requires { member.0 < member_count member.1 }
     ensures { IfOk result (λ r. HasStartedBeside ⟦<SchedNode<PlainRecords> as Node>⟧.who ⟦<SchedNode<PlainRecords> as Node>⟧.stands
-        (is_honest F.Base.Store r.1) (MayFind F.Base.Store r.1.owner r.1.held) (F.found_for files (record { node = member.0; members = member.1 }) false)
+        (is_honest F.Base.Store r.1) (MayFind F.Base.Store r.1.owner r.1.held) (F.begins files (record { node = member.0; members = member.1 }))
         (member_count member.1) member.0 is_new r.0) }
 {
     let (id, members) = member;
@@ -106,7 +106,7 @@ fn use_beside<F: OpensRecords, U: BatchedUse>(
 ) -> Result<U::Answer, StartFault>
     requires { member.0 < member_count member.1 }
     ensures { IfOk result (ComesOfStart (U.comes user member.0 (member_count member.1) is_new)
-        (F.found_for files (record { node = member.0; members = member.1 }) false) is_new) }
+        (F.begins files (record { node = member.0; members = member.1 })) is_new) }
 {
     let (id, members) = member;
     match started_beside(alloc, files, (id, members), is_new) {
@@ -125,12 +125,29 @@ fn use_batched_over<D: Disk + Drop, U: BatchedUse>(
 ) -> Result<U::Answer, StartFault>
     requires { member.0 < member_count member.1 }
     ensures { IfOk result (ComesOfStart (U.comes user member.0 (member_count member.1) is_new)
-        (IsFoundFor D.Disk files (record { node = member.0; members = member.1 }) false) is_new) }
+        (IsBegunIn D.Disk files (record { node = member.0; members = member.1 })) is_new) }
 {
     use_beside(alloc, files, member, is_new, user)
 }
 
-/// The same over files that may be new. Where the node is refused, what wasn't there before is taken away again.
+/// The same over files that are new, or without tables.
+fn use_made<U: BatchedUse>(
+    rt: &HostRuntime,
+    made: &FilesAt<'_>,
+    member: (NodeId, Members),
+    user: U,
+) -> Result<U::Answer, StartFault>
+    requires { member.0 < member_count member.1 }
+    ensures { IfOk result (ComesOfStart (U.comes user member.0 (member_count member.1) true)
+        (λ is_new c. (files : _) × IsBegunIn ⟦<File as Disk>⟧ files (record { node = member.0; members = member.1 }) is_new c) true) }
+{
+    match made.opened(rt) {
+        Ok(files) => use_batched_over(rt.alloc(), files, member, true, user),
+        Err(fault) => Err(fault),
+    }
+}
+
+/// The same. Where the node is refused, what wasn't there before is taken away again.
 fn use_new_batched<U: BatchedUse>(
     rt: &HostRuntime,
     path: &str,
@@ -138,13 +155,11 @@ fn use_new_batched<U: BatchedUse>(
     user: U,
 ) -> Result<U::Answer, StartFault>
     requires { member.0 < member_count member.1 }
-    ensures { IfOk result (ComesOfStart (U.comes user member.0 (member_count member.1) true) (λ _. ⊥) true) }
+    ensures { IfOk result (ComesOfStart (U.comes user member.0 (member_count member.1) true)
+        (λ is_new c. (files : _) × IsBegunIn ⟦<File as Disk>⟧ files (record { node = member.0; members = member.1 }) is_new c) true) }
 {
     let made = FilesAt::found(rt, path)?;
-    let answer = match made.opened(rt) {
-        Ok(files) => use_batched_over(rt.alloc(), files, member, true, user),
-        Err(fault) => Err(fault),
-    };
+    let answer = use_made(rt, &made, member, user);
     if answer.is_err() {
         made.remove_made(rt);
     }
@@ -153,7 +168,8 @@ fn use_new_batched<U: BatchedUse>(
 
 /// Uses a node in memory beside the records of its files: as a new one, where these hold nothing, or as one that goes on
 /// over what they hold. It is refused as by `use_node_at`, and by the same fault, and nothing is used then. A node that
-/// goes on does so over a content that is in some files, which are this node's as one of these members.
+/// goes on does so over a content that is in some files, which are this node's as one of these members. Those of a new
+/// one have its tables in the database file by itself.
 pub fn use_batched_at<U: BatchedUse>(
     rt: &HostRuntime,
     path: &str,
@@ -163,7 +179,7 @@ pub fn use_batched_at<U: BatchedUse>(
 ) -> Result<U::Answer, StartFault>
     requires { member.0 < member_count member.1 }
     ensures { IfOk result (ComesOfStart (U.comes user member.0 (member_count member.1) is_new)
-        (λ c. (files : _) × IsFoundFor ⟦<File as Disk>⟧ files (record { node = member.0; members = member.1 }) false c) is_new) }
+        (λ is_new c. (files : _) × IsBegunIn ⟦<File as Disk>⟧ files (record { node = member.0; members = member.1 }) is_new c) is_new) }
 {
     if is_new {
         use_new_batched(rt, path, member, user)

@@ -8,12 +8,10 @@ ghost use Rattle.ballots.specs.Members.{member_count};
 ghost use Rattle.stored_nodes.specs.States.{StayFiles, StaysFile};
 
 use crate::fresh::begun_with;
-use crate::owned::Claim;
+use crate::owned::{Claim, begins_over};
 use crate::start::{FileFault, StartFault};
-use crate::uses::{NodeUse, use_node_over};
 use acceptor_store::{OwnerFault, SqlRecords, open_files};
 use ballots::{Members, NodeId};
-use node::Node;
 use sqlite::Files;
 use sqlite_disk::{Disk, Memory};
 use std::alloc::Global;
@@ -45,16 +43,6 @@ fn copy_of<D: Disk>(alloc: Global, files: &mut Files<D>) -> io::Result<Files<Mem
     Ok(Files { log, db })
 }
 
-/// A node that nothing is asked.
-#[derive(Drop)]
-struct LetGo;
-
-impl NodeUse for LetGo {
-    type Answer = ();
-
-    fn use_node<N: Node + Drop>(self, _node: N, _member: (NodeId, Members), _is_new: bool) {}
-}
-
 /// Whether a node begins so over a copy of the files in memory, or why it doesn't. They stay as they are.
 pub(crate) fn begins_by_copy<D: Disk>(
     alloc: Global,
@@ -71,7 +59,7 @@ pub(crate) fn begins_by_copy<D: Disk>(
         return Err(StartFault::Unusable(FileFault::Failed));
     }
     let copy = copy_of(alloc, files)?;
-    use_node_over(alloc, copy, (id, members), Some(claim), LetGo)
+    begins_over(alloc, copy, id, members, claim)
 }
 
 /// Whether a node begins over these records, or why it doesn't.

@@ -1,7 +1,9 @@
 //! Nodes that keep their records in files: fresh ones over the files of a folder, and one over files that are its own.
 #![tactic(auto)]
 
+mod alone;
 mod batched;
+mod connection;
 mod copies;
 mod fault;
 mod folder;
@@ -9,6 +11,7 @@ mod fresh;
 mod opens;
 mod own_file;
 mod owned;
+mod refusals;
 mod start;
 mod states;
 mod stored;
@@ -22,6 +25,7 @@ pub use folder::use_nodes_in;
 pub use opens::records_for;
 pub use own_file::{new_node_of, node_of};
 pub use owned::{begun_node, resumed_node};
+pub use refusals::CountsRefusals;
 pub use start::{FileFault, StartFault};
 pub use states::{FilesState, state_of_files};
 pub use stored::{StoredNode, stored_nodes};

@@ -184,7 +184,7 @@ fn told_of<D: Disk>(alloc: Global, files: &mut Files<D>, id: NodeId) -> Told
         return Told::State(FilesState::Unusable(FileFault::Failed));
     }
     match refuse_lost(alloc, files) {
-        Ok(()) => told_whole(alloc, files, id),
+        Ok(_tie) => told_whole(alloc, files, id),
         Err(fault) => told_start(fault),
     }
 }

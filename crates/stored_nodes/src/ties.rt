@@ -1,7 +1,8 @@
 //! Whether files lost something, found out before they are opened.
 
-ghost use Rattle.std.specs.Prelude.{◌≡◌, ◌≢◌, ◌⊎◌, IfErr, IfSome, IsErrAnd, IsTrue, None, Some};
-ghost use Rattle.log_ties.specs.Ties.{IsLost};
+ghost use Rattle.std.specs.Prelude.{◌≡◌, ◌≢◌, ◌⊎◌, IfErr, IfOk, IfSome, IsErrAnd, IsTrue, None};
+ghost use Rattle.std.specs.Prelude.{Some};
+ghost use Rattle.log_ties.specs.Ties.{IsLost, IsToldOf};
 ghost use Rattle.sqlite.specs.Files.{faults_of, image_of};
 ghost use Rattle.sqlite_wal.specs.Reads.{AreClean, OnlyReads};
 ghost use Rattle.stored_nodes.specs.Lost.{IsDueBefore, IsLong, TellsLoss};
@@ -53,10 +54,12 @@ fn unknown(error: Error) -> StartFault
     }
 }
 
-/// Refuses files of which one lost something, and tells what. They are only read.
-pub(crate) fn refuse_lost<D: Disk>(alloc: Global, files: &mut Files<D>) -> Result<(), StartFault>
+/// Refuses files of which one lost something, and tells what. Else it gives what they tell of each other. They are only
+/// read.
+pub(crate) fn refuse_lost<D: Disk>(alloc: Global, files: &mut Files<D>) -> Result<Tie, StartFault>
     requires log_usable { IsTrue (D.Disk.is_usable files.old.log) }
     requires db_usable { IsTrue (D.Disk.is_usable files.old.db) }
+    ensures told { IfOk result (λ tie. AreClean D.Disk files.new.log files.new.db → IsToldOf (image_of D.Disk files.old) tie) }
     ensures lost { (loss : Loss) → IsLost (image_of D.Disk files.old) loss → AreClean D.Disk files.new.log files.new.db → IsErrAnd result (TellsLoss loss) }
     ensures due { IfErr result (λ e. AreClean D.Disk files.new.log files.new.db
         → IsDueBefore (image_of D.Disk files.old) (faults_of D.Disk files.old) (faults_of D.Disk files.new) e) }
@@ -65,7 +68,7 @@ pub(crate) fn refuse_lost<D: Disk>(alloc: Global, files: &mut Files<D>) -> Resul
 {
     match tie_of(alloc, files) {
         Ok(Tie::Lost(loss)) => Err(StartFault::Lost(loss)),
-        Ok(_) => Ok(()),
+        Ok(tie) => Ok(tie),
         Err(error) => Err(unknown(error)),
     }
 }

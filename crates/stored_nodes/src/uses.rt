@@ -1,19 +1,19 @@
 //! Nodes over files, for whoever needn't know what they keep their records in.
 
-ghost use Rattle.std.specs.Prelude.{◌≡◌, ◌<◌, ℕ, Bool, ⊤, true, false, is_some, IfOk, IsTrue, None, Option, Some};
+ghost use Rattle.std.specs.Prelude.{◌≡◌, ◌<◌, ℕ, Bool, ⊤, true, IfOk, IsTrue, None, Option, Some};
 ghost use Rattle.std.specs.Prelude.{length};
 ghost use Rattle.acceptor.specs.Content.{Content};
 ghost use Rattle.ballots.specs.Members.{member_count};
 ghost use Rattle.seats.specs.Fresh.{AreFresh};
 ghost use Rattle.node.specs.View.{started};
 ghost use Rattle.node.specs.View.Standing.{Running};
-ghost use Rattle.stored_nodes.specs.Kept.{IsFoundFor};
+ghost use Rattle.stored_nodes.specs.Alone.{IsBegunIn};
 ghost use Rattle.stored_nodes.specs.Starts.{ComesOfStart, HasStarted};
 
 use crate::fault::StoreFault;
 use crate::opens::OpensRecords;
 use crate::own_file::{FilesAt, files_of};
-use crate::owned::{Claim, started_over};
+use crate::owned::started_over;
 use crate::start::StartFault;
 use crate::stored::{examine_all, nodes_over};
 use acceptor_store::SqlRecords;
@@ -54,7 +54,7 @@ pub trait NodeUse: Drop {
         member: (NodeId, Members),
         is_new: bool,
     ) -> Self::Answer
-        requires { HasStarted N.who N.honest N.stands (λ _. ⊤) (member_count member.1) member.0 is_new node }
+        requires { HasStarted N.who N.honest N.stands (λ _ _. ⊤) (member_count member.1) member.0 is_new node }
         ensures lies { (IsTrue (N.honest node) → ⊥) → comes self member.0 (member_count member.1) is_new None result }
         ensures tells { IsTrue (N.honest node) → (c : Content) → N.stands node (Running (started c))
             → comes self member.0 (member_count member.1) is_new (Some c) result };
@@ -109,35 +109,51 @@ fn use_started<F: OpensRecords, U: NodeUse>(
     alloc: Global,
     files: F,
     member: (NodeId, Members),
-    begins: Option<Claim>,
+    is_new: bool,
     user: U,
 ) -> Result<U::Answer, StartFault>
     requires { member.0 < member_count member.1 }
-    ensures { IfOk result (ComesOfStart (U.comes user member.0 (member_count member.1) (is_some begins))
-        (F.found_for files (record { node = member.0; members = member.1 }) false) (is_some begins)) }
+    ensures { IfOk result (ComesOfStart (U.comes user member.0 (member_count member.1) is_new)
+        (F.begins files (record { node = member.0; members = member.1 })) is_new) }
 {
     let (id, members) = member;
-    let is_new = begins.is_some();
-    match started_over(alloc, files, (id, members), begins) {
+    match started_over(alloc, files, (id, members), is_new) {
         Ok(node) => Ok(user.use_node(node, (id, members), is_new)),
         Err(fault) => Err(fault),
     }
 }
 
-/// Uses the node that begins so over the files, or goes on over them where it doesn't begin: over a content that is in
-/// them, one of those that the node might have left there.
-pub(crate) fn use_node_over<D: Disk + Drop, U: NodeUse>(
+/// Uses the node that is new over the files, or goes on over a content that is in them: one of those that the node might
+/// have left there.
+fn use_node_over<D: Disk + Drop, U: NodeUse>(
     alloc: Global,
     files: Files<D>,
     member: (NodeId, Members),
-    begins: Option<Claim>,
+    is_new: bool,
     user: U,
 ) -> Result<U::Answer, StartFault>
     requires { member.0 < member_count member.1 }
-    ensures { IfOk result (ComesOfStart (U.comes user member.0 (member_count member.1) (is_some begins))
-        (IsFoundFor D.Disk files (record { node = member.0; members = member.1 }) false) (is_some begins)) }
+    ensures { IfOk result (ComesOfStart (U.comes user member.0 (member_count member.1) is_new)
+        (IsBegunIn D.Disk files (record { node = member.0; members = member.1 })) is_new) }
 {
-    use_started(alloc, files, member, begins, user)
+    use_started(alloc, files, member, is_new, user)
+}
+
+/// Uses the node that is new over files that are, or that have no tables.
+fn use_made<U: NodeUse>(
+    rt: &HostRuntime,
+    made: &FilesAt<'_>,
+    member: (NodeId, Members),
+    user: U,
+) -> Result<U::Answer, StartFault>
+    requires { member.0 < member_count member.1 }
+    ensures { IfOk result (ComesOfStart (U.comes user member.0 (member_count member.1) true)
+        (λ is_new c. (files : _) × IsBegunIn ⟦<File as Disk>⟧ files (record { node = member.0; members = member.1 }) is_new c) true) }
+{
+    match made.opened(rt) {
+        Ok(files) => use_node_over(rt.alloc(), files, member, true, user),
+        Err(fault) => Err(fault),
+    }
 }
 
 /// Uses the node of `new_node_of`. Where it is refused, what wasn't there before is taken away again.
@@ -148,13 +164,11 @@ fn use_new_node<U: NodeUse>(
     user: U,
 ) -> Result<U::Answer, StartFault>
     requires { member.0 < member_count member.1 }
-    ensures { IfOk result (ComesOfStart (U.comes user member.0 (member_count member.1) true) (λ _. ⊥) true) }
+    ensures { IfOk result (ComesOfStart (U.comes user member.0 (member_count member.1) true)
+        (λ is_new c. (files : _) × IsBegunIn ⟦<File as Disk>⟧ files (record { node = member.0; members = member.1 }) is_new c) true) }
 {
     let made = FilesAt::found(rt, path)?;
-    let answer = match made.opened(rt) {
-        Ok(files) => use_node_over(rt.alloc(), files, member, Some(Claim::OwnOrNew), user),
-        Err(fault) => Err(fault),
-    };
+    let answer = use_made(rt, &made, member, user);
     if answer.is_err() {
         made.remove_made(rt);
     }
@@ -163,7 +177,7 @@ fn use_new_node<U: NodeUse>(
 
 /// Uses the node of `new_node_of`, or of `node_of` where it isn't new. Where that gives a fault, that is given, and
 /// nothing is used. A node that goes on does so over a content that is in some files, which are this node's as one of
-/// these members.
+/// these members. Those of a new one have its tables in the database file by itself.
 pub fn use_node_at<U: NodeUse>(
     rt: &HostRuntime,
     path: &str,
@@ -173,12 +187,12 @@ pub fn use_node_at<U: NodeUse>(
 ) -> Result<U::Answer, StartFault>
     requires { member.0 < member_count member.1 }
     ensures { IfOk result (ComesOfStart (U.comes user member.0 (member_count member.1) is_new)
-        (λ c. (files : _) × IsFoundFor ⟦<File as Disk>⟧ files (record { node = member.0; members = member.1 }) false c) is_new) }
+        (λ is_new c. (files : _) × IsBegunIn ⟦<File as Disk>⟧ files (record { node = member.0; members = member.1 }) is_new c) is_new) }
 {
     if is_new {
         use_new_node(rt, path, member, user)
     } else {
         let files = files_of(rt, path)?;
-        use_node_over(rt.alloc(), files, member, None, user)
+        use_node_over(rt.alloc(), files, member, false, user)
     }
 }

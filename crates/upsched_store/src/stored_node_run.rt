@@ -18,8 +18,7 @@ use node_lines::{Ahead, Unwritten};
 use node_service::{BatchedEnd, End, Lines, Outbox, Reply};
 use std::alloc::Global;
 use std::io::Write;
-use store_anew::OpensAnew;
-use stored_nodes::{BatchedUse, StartFault, use_batched_at};
+use stored_nodes::{BatchedUse, CountsRefusals, StartFault, use_batched_at};
 use upsched_ends::{Fault, NodeWords, Status};
 use upsched_node::{NO_MEMBER, ended, member_of, unwritten};
 
@@ -63,7 +62,7 @@ struct Serving<'a, I, O> {
 impl<I: Lines + Ahead, O: Outbox> BatchedUse for Serving<'_, I, O> {
     type Answer = Result<(), Fault<'static>>;
 
-    fn use_batched<S: OpensAnew>(
+    fn use_batched<S: CountsRefusals>(
         self,
         node: SchedNode<PlainRecords>,
         store: SqlRecords<S>,

@@ -404,7 +404,7 @@ const NODE: Usage = Usage {
             "new",
             Flag,
             Only("store"),
-            "Begins with a new database; a node that ever promised or voted must start without it",
+            "Begins with a new database; one that has this node's tables, even with nothing in them, is refused",
         ),
         Argument(
             "journal",

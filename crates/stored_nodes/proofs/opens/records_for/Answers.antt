@@ -1,10 +1,25 @@
-use Rattle.std.proofs.Common.{Ok}
-use Rattle.stored_nodes.proofs.Opened.{found_for}
+use Rattle.std.proofs.lemmas.Result.{IfOk-weaker}
+use Rattle.stored_nodes.proofs.Copying.{begun_new, begun_old}
 use Rattle.stored_nodes.proofs.opens.records_for.Goals as goal
 
-pub returns-in-Ok-clause-holds : goal.returns-in-Ok-clause-holds
-returns-in-Ok-clause-holds g c =
-    found_for {g = g.D.Disk} c.args.files c.in_ok-conn.conn (record { node = c.args.node; members = c.args.members }) c.args.is_new {E = Unit {0}} (Ok c.in-Ok.records) c.in_ok-conn.ensures.opened c.in_ok-conn.ensures.found c.in-Ok.ensures.holds c.in-Ok.ensures.clean
+pub returns-then-is_new-clause-holds : goal.returns-then-is_new-clause-holds
+returns-then-is_new-clause-holds g c =
+    rw c.if-is_new.true
+    (begun_new {g = g.D.Disk} c.args.files (record { node = c.args.node; members = c.args.members }) c.in_ok-conn.conn c.new_records.result c.in_ok-conn.ensures.opened c.in_ok-conn.ensures.found c.new_records.ensures.clean c.new_records.ensures.blank c.new_records.ensures.holds)
 
-pub returns-in-Ok-clause-lost : goal.returns-in-Ok-clause-lost
-returns-in-Ok-clause-lost g c loss lost honest = c.in_ok-conn.ensures.lost loss lost (c.in-Ok.ensures.clean honest)
+pub returns-then-is_new-clause-lost : goal.returns-then-is_new-clause-lost
+returns-then-is_new-clause-lost g c loss lost = IfOk-weaker c.new_records.result _ _ (λ r clean honest. c.in_ok-conn.ensures.lost loss lost (clean honest)) c.new_records.ensures.clean
+
+pub returns-then-is_new-clause-told : goal.returns-then-is_new-clause-told
+returns-then-is_new-clause-told g c never usable loss lost = absurd (c.in_ok-conn.ensures.told never usable loss lost)
+
+pub returns-else-is_new-clause-holds : goal.returns-else-is_new-clause-holds
+returns-else-is_new-clause-holds g c =
+    rw c.if-is_new.false
+    (begun_old {g = g.D.Disk} c.args.files (record { node = c.args.node; members = c.args.members }) c.in_ok-conn.tie c.in_ok-conn.conn c.old_records.result c.in_ok-conn.ensures.found c.in_ok-conn.ensures.copied c.old_records.ensures.clean c.old_records.ensures.holds)
+
+pub returns-else-is_new-clause-lost : goal.returns-else-is_new-clause-lost
+returns-else-is_new-clause-lost g c loss lost = IfOk-weaker c.old_records.result _ _ (λ r clean honest. c.in_ok-conn.ensures.lost loss lost (clean honest)) c.old_records.ensures.clean
+
+pub returns-else-is_new-clause-told : goal.returns-else-is_new-clause-told
+returns-else-is_new-clause-told g c never usable loss lost = absurd (c.in_ok-conn.ensures.told never usable loss lost)
