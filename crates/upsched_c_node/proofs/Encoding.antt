@@ -15,7 +15,8 @@ use Rattle.ballots.specs.declared.letters.Note.{Note}
 use Rattle.ballots.specs.declared.letters.Note.TheVariants.{Prepare, Promise, Accept, Voted, Higher, Known}
 use Rattle.letter_bytes.specs.Spelling.{FitsFields, FitsFront, FitsLetter, FitsVote, kind_byte, kind_of, vote_spelling}
 use Rattle.letter_bytes.specs.Spelling.{votes_reported}
-use Rattle.upsched_c_node.specs.Letters.{AreFields, AreOf, Fits, FitsKind, IsNote, ballot_of, place_of, value_of, vote_of}
+use Rattle.upsched_c_node.specs.Letters.{AreFields, AreOf, Fits, FitsKind, IsNote, ballot_of, place_of, value_of}
+use Rattle.upsched_c_node.specs.Letters.{vote_of}
 use Rattle.upsched_c_node.specs.declared.letter_fields.LetterFields.{LetterFields}
 use Rattle.upsched_c_node.specs.declared.letter_fields.VoteFields.{VoteFields}
 use Rattle.upsched_c_node.proofs.Lengths.{of_vote, one_more}
