@@ -240,6 +240,7 @@ class Run:
         if line is None:
             if head != it.hello:
                 raise Difference(f"node {it.number} began with {head!r}, not {it.hello!r}")
+            it.was_answered = True
             it.is_ready = it.process is not None
             return
         kind = line.split(b" ", 1)[0]

@@ -44,7 +44,7 @@ class Member:
         self.program, self.number, self.members, self.disk, self.counts = program, number, members, disk, counts
         self.journal = journal
         self.file = os.path.join(disk.folder, f"node-{number}.db")
-        self.process, self.was_asked, self.lines = None, False, []
+        self.process, self.was_answered, self.lines = None, False, []
         self.full_until = self.stopped_until = None
         self.was_full = self.was_killed = self.crashes = False
         self.replies, self.prefix = [], 0
@@ -54,8 +54,10 @@ class Member:
         self.lines.append((mark, bytes(line)))
 
     def start(self):
-        """A new life. It is a new node's as long as no process over this file was asked anything."""
-        new = not self.was_asked
+        """A new life. It is a new node's as long as no process over this file said anything: then nothing of it stays."""
+        new = not self.was_answered
+        if new:
+            self.remove()
         self.process = NodeProcess(self.program, self.number, self.members, self.file, new, self.journal)
         self.hello = b"node %d of %d %s" % (self.number, self.members, b"fresh" if new else b"restarted")
         self.is_ready = False
@@ -65,6 +67,12 @@ class Member:
         self.prefix = 0
         if self.was_full and not self.disk.is_own:
             self.limit()
+
+    def remove(self):
+        """Nobody heard of what a start left that was killed before its first line."""
+        for end in ("", "-wal"):
+            with contextlib.suppress(FileNotFoundError):
+                os.unlink(self.file + end)
 
     def limit(self):
         """No file may grow beyond its size now."""
@@ -92,7 +100,6 @@ class Member:
                 resource.prlimit(self.process.process.pid, resource.RLIMIT_FSIZE, (FREE, FREE))
 
     def ask(self, line, is_hostile=False):
-        self.was_asked = True
         self.process.ask(line)
         self.process.waiting[-1].is_hostile = is_hostile
         self.note("<", line)

@@ -2,12 +2,13 @@
 """Takes files of nodes apart, and looks at what `upsched check --store` and a start say of them: never that they are
 fresh, and no ballot that was tried before, but where the loss can't be seen.
 
-Usage: bench/lost.py [PROGRAM] [--cuts N] [--pairs N] [--seed S]
+Usage: bench/lost.py [PROGRAM] [--cuts N] [--pairs N] [--makings N] [--seed S]
 
 Five nodes of five lead again and again, over files, and both files of each are copied behind many of their replies,
 up to behind a checkpoint. Then: a log cut at N places (20,000); N pairs (2,000) of a database and a log of two times;
 the log of another node; one file that isn't there, or is empty; a link and a folder in a file's place; files without
-rights; and a file that can't grow. Of each it says how many were tried, how many were seen, and how many were
+rights; a file that can't grow; and N new nodes (200) that are killed at any moment: behind a first line the database
+alone says whose it is, as SQLite reads it. Of each it says how many were tried, how many were seen, and how many were
 answered otherwise than they should be; each of these is a line. It ends with status 1 where there is one.
 
 What is expected of a cut goes by the frames of the log (SQLite's fileformat2.html, section 4), read here by
@@ -15,13 +16,17 @@ themselves.
 """
 import argparse
 import collections
+import contextlib
 import os
 import random
 import re
 import shutil
+import sqlite3
 import subprocess
 import sys
 import tempfile
+import time
+import types
 
 ROOT = os.path.dirname(os.path.dirname(os.path.abspath(__file__)))
 MEMBERS, FRAME, HEAD, PAGE = 5, 24, 32, 4096
@@ -265,6 +270,48 @@ class Lost:
         shutil.rmtree(self.folder)
 
 
+    # Files that are made.
+
+    def owner_alone(self, node):
+        """Whose the database file is by itself, as SQLite reads a copy of it without its log."""
+        alone = os.path.join(os.path.dirname(self.folder), "alone.db")
+        shutil.copy(self.path(node), alone)
+        with contextlib.closing(sqlite3.connect(alone)) as database:
+            found = database.execute("SELECT bytes FROM fact WHERE id = 0").fetchall()
+        os.unlink(alone)
+        return [tuple(it[0]) for it in found]
+
+    def makes(self, node, delay):
+        """What a new node said that was killed so many seconds later."""
+        words = [self.program, "node", str(node), "--members", str(MEMBERS), "--store", self.path(node), "--new"]
+        with subprocess.Popen(words, stdin=subprocess.PIPE, stdout=subprocess.PIPE) as it:
+            time.sleep(delay)
+            it.kill()
+            return it.stdout.read()
+
+    def tries_makings(self, count, numbers):
+        """A start that was killed leaves files that a start takes, and a first line only behind whole ones."""
+        before, told = self.wrong, collections.Counter()
+        for number in range(count):
+            node = number % MEMBERS
+            case = types.SimpleNamespace(what=f"making {number} of node {node}")
+            os.makedirs(self.folder, exist_ok=True)
+            first = self.makes(node, numbers.random() * 0.02)
+            state = self.states()[0].get(self.path(node), "no file")
+            told[state] += 1
+            if state not in ("no file", "fresh", "begun") or first and state != "begun":
+                self.differs(case, f"behind {first!r}, check --store", state)
+            if first and self.owner_alone(node) != [(node, MEMBERS)]:
+                self.differs(case, "the owner of the database alone", self.owner_alone(node))
+            for words, is_right in ([], state == "begun"), (["--new"], state != "begun"):
+                line, found = self.start(node, *words, given=b"")
+                if (line is not None) != is_right:
+                    self.differs(case, f"a start {words} over {state}", (line, found))
+            shutil.rmtree(self.folder)
+        kinds = " ".join(f"{count} {state}" for state, count in sorted(told.items()))
+        print(f"makings killed: {count} tried ({kinds}), {self.wrong - before} wrong", flush=True)
+
+
 def linked(path):
     os.rename(path, path + ".kept")
     os.symlink(path + ".kept", path)
@@ -330,6 +377,7 @@ def main():
     words.add_argument("program", nargs="?", default=os.path.join(ROOT, "crates/upsched/out/upsched"))
     words.add_argument("--cuts", type=int, default=20000)
     words.add_argument("--pairs", type=int, default=2000)
+    words.add_argument("--makings", type=int, default=200)
     words.add_argument("--leads", type=int, default=400, help="how often each node leads; 260 pass a checkpoint")
     words.add_argument("--seed", type=int, default=1)
     given = words.parse_args()
@@ -352,6 +400,7 @@ def main():
         user = {"user": NOBODY} if os.getuid() == 0 else {}
         it.tries_shut("no rights", last, lambda path: os.chmod(path, 0), ["unusable: permission denied"], **user)
         it.tries_full(last)
+        it.tries_makings(given.makings, numbers)
     print(f"{it.wrong} wrong")
     sys.exit(it.wrong > 0)
 

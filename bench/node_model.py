@@ -4,6 +4,8 @@ It serves lines and expected replies of examples, and scripts that are tried wit
 records but its memory, and none of its faults of memory or of a store.
 """
 
+import hashlib
+
 PREPARE, PROMISE, ACCEPT, VOTED, HIGHER, KNOWN = range(1, 7)
 MOST_PLACES, LONGEST_VALUE, TOLD_AT_ONCE = 1_000_000, 64, 64
 # What a host's line may begin with: two numbers of 64 bits, without a zero too many.
@@ -164,11 +166,23 @@ def numbered(line):
     return *both, rest
 
 
-class Host:
-    """`output_of` gives the output of the next value: the first of epoch 1 first, and so on."""
+STATE = b"upsched state 1\n"
+NO_TABLES = bytes(2)
 
-    def __init__(self, me, members, places, output_of):
+
+def state_of(epoch, places, before, me, members, tables):
+    """The bytes of a state, with its sum."""
+    told = STATE + u64(epoch) + u64(places) + u64(before) + bytes([me, members]) + tables
+    return told + hashlib.sha256(told).digest()[:8]
+
+
+class Host:
+    """`output_of` gives the output of the next value: the first of epoch 1 first, and so on. `tables` are the bytes of
+    the tables at the start of each epoch from 2 on, where they are known."""
+
+    def __init__(self, me, members, places, output_of, tables=None):
         self.me, self.members, self.places, self.output_of = me, members, places, output_of
+        self.tables = {1: NO_TABLES} | (tables or {})
         self.number, self.taken, self.waiting, self.given = 1, 0, [], 0
         self.nodes = {1: Node(me, members), 2: Node(me, members)}
 
@@ -180,6 +194,10 @@ class Host:
         found = numbered(line)
         if found is not None:
             return self.reply_in(*found)
+        if line == "state":
+            return [f"state {self.state().hex()}"]
+        if line.startswith("join "):
+            return self.join(line.removeprefix("join "))
         word, _, time = line.partition(" ")
         if word != "release" or not line.startswith("release "):
             return ["error 1 NoLine"]
@@ -190,7 +208,7 @@ class Host:
     def reply_in(self, epoch, places, rest):
         if places != self.places:
             return ["error 10 OtherPlaces"]
-        if epoch == 0 or epoch + 1 < self.number:
+        if epoch == 0 or epoch + 1 < self.number or epoch < self.number and epoch not in self.nodes:
             return ["error 9 Gone"]
         if epoch > self.number + 1:
             return ["error 8 Ahead"]
@@ -211,6 +229,28 @@ class Host:
         if isinstance(told, str):
             return [said + told]
         return [f"{said}sent {len(told)}"] + [f"{said}letter {to} {letter.hex()}" for to, letter in told]
+
+    def state(self):
+        before = (self.number - 1) * self.places
+        return state_of(self.number, self.places, before, self.me, self.members, self.tables[self.number])
+
+    def join(self, digits):
+        """It goes to a state of which it knows the tables. Of the nodes that it has it keeps those that it still needs."""
+        try:
+            state = bytes.fromhex(digits)
+        except ValueError:
+            return ["error 2 NoHex"]
+        epoch, teller = int.from_bytes(state[16:24], "big"), state[40] if len(state) > 40 else self.members
+        before = (epoch - 1) * self.places
+        tables = self.tables.get(epoch, NO_TABLES)
+        if epoch <= self.number or teller >= self.members or epoch not in self.tables:
+            return ["error 11 NoState"]
+        if state != state_of(epoch, self.places, before, teller, self.members, tables):
+            return ["error 11 NoState"]
+        kept = {number: node for number, node in self.nodes.items() if number + 1 >= epoch}
+        new = {number: Node(self.me, self.members) for number in (epoch, epoch + 1)}
+        self.number, self.taken, self.waiting, self.given, self.nodes = epoch, 0, [], before, new | kept
+        return [f"joined {epoch}"]
 
     def release(self):
         if self.taken == self.places and self.given == (self.number - 1) * self.places + self.taken:

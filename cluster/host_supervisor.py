@@ -19,7 +19,8 @@ Where the commands are over, and a later epoch has places, it fills an epoch wit
 
 A host that lags is told by one that is further. No host is asked to go on while another one is an epoch behind, but
 for one that is away, which said nothing for ten times that second; and a majority goes on with it. A host that is two
-epochs behind all others is lost: they go on without it.
+epochs behind all others is left behind: they go on without it. Once it says something it gets the state of the furthest
+one, and joins.
 """
 import collections
 import heapq
@@ -44,7 +45,7 @@ class HostState:
     """What a host said of itself."""
 
     def __init__(self, now):
-        self.is_there, self.is_lost, self.said = False, False, now
+        self.is_there, self.is_behind, self.said = False, False, now
         self.epoch, self.lacks, self.given = 1, 1, 0
         # When it last answered a release, and when such an answer last had something.
         self.answered, self.moved = now, now
@@ -52,6 +53,8 @@ class HostState:
         self.waiting, self.again, self.count = 0.0, 0.0, 0
         # Whether it lags, and from which place of which epoch on it was told, when.
         self.lags, self.told, self.told_at = False, None, 0.0
+        # When a state was last asked for it, which is two epochs behind all others.
+        self.joins_at = 0.0
 
 
 class Epoch:
@@ -122,6 +125,10 @@ class HostSupervisor:
         elif word == b"next":
             number, _, place = rest.partition(b" ")
             self.take_next(self.hosts[me], me, int(number.split(b"/")[0]), int(place))
+        elif word == b"state":
+            self.take_state(rest.decode())
+        elif word == b"joined":
+            self.take_joined(self.hosts[me], me, int(rest))
         elif word == b"host":
             self.take_first(me, rest.decode())
 
@@ -206,6 +213,17 @@ class HostSupervisor:
             it.moved = self.now
         it.epoch, it.lacks, it.given = epoch, place, (epoch - 1) * self.places + place - 1
 
+    def take_state(self, digits):
+        """A state goes to all that are two epochs behind and say something."""
+        for host, it in enumerate(self.hosts):
+            if it.is_behind and not self.is_away(it):
+                self.ask(host, f"join {digits}")
+
+    def take_joined(self, it, host, epoch):
+        it.is_behind, it.lags, it.told, it.waiting, it.moved = False, False, None, 0.0, self.now
+        it.epoch, it.lacks, it.given = epoch, 1, (epoch - 1) * self.places
+        self.show(f"host {host} joined epoch {epoch}")
+
     # What is left to offer.
 
     def value(self, offer):
@@ -242,7 +260,7 @@ class HostSupervisor:
     # What is asked.
 
     def there(self):
-        return [it for it in self.hosts if not it.is_lost]
+        return [it for it in self.hosts if not it.is_behind]
 
     def is_away(self, it):
         return self.now - it.said > AWAY
@@ -250,7 +268,7 @@ class HostSupervisor:
     def next_leader(self):
         """The next host that is there and not away, if there is one."""
         order = [(self.leader + behind) % self.members for behind in range(1, self.members + 1)]
-        good = [host for host in order if not (self.hosts[host].is_lost or self.is_away(self.hosts[host]))]
+        good = [host for host in order if not (self.hosts[host].is_behind or self.is_away(self.hosts[host]))]
         return (good or order)[0]
 
     def leads(self, number):
@@ -310,13 +328,13 @@ class HostSupervisor:
     def waits(self, it):
         """Whether this host has passed its epoch, and one that isn't away is an epoch behind, or a majority is."""
         behind = [other for other in self.hosts if other.epoch < it.epoch]
-        is_awaited = any(not (other.is_lost or self.is_away(other)) for other in behind)
+        is_awaited = any(not (other.is_behind or self.is_away(other)) for other in behind)
         return it.lacks > self.places and (is_awaited or 2 * len(behind) > self.members)
 
     def releases(self):
         """Asks no host twice at once, since the second time might have it go on."""
         for host, it in enumerate(self.hosts):
-            if it.is_lost or self.now < it.again or it.waiting and self.now - it.waiting < AWAY:
+            if it.is_behind or self.now < it.again or it.waiting and self.now - it.waiting < AWAY:
                 continue
             if self.waits(it):
                 self.heard = self.now
@@ -325,17 +343,26 @@ class HostSupervisor:
             self.ask(host, "release 0")
 
     def tells(self):
-        """Has those told that lag. Who is two epochs behind all others can't be told any more."""
+        """Has those told that lag. Who is two epochs behind all others can't be told any more, and joins."""
         for host, it in enumerate(self.hosts):
-            if it.is_lost or it.given == self.furthest:
+            if it.is_behind or it.given == self.furthest:
                 continue
-            further = [k for k, other in enumerate(self.hosts) if other.given > it.given and not other.is_lost]
+            further = [k for k, other in enumerate(self.hosts) if other.given > it.given and not other.is_behind]
             near = [k for k in further if self.hosts[k].epoch <= it.epoch + 1]
             if further and not near:
-                it.is_lost = True
-                self.show(f"host {host} is lost: it is two epochs behind all others")
+                it.is_behind = True
+                self.show(f"host {host} is two epochs behind all others")
             elif near and self.lags(host, it):
                 self.tell(host, it, max(near, key=lambda k: self.hosts[k].given))
+
+    def joins(self):
+        """Asks the furthest host for its state, for those that are two epochs behind and say something."""
+        due = [it for it in self.hosts if it.is_behind and not self.is_away(it) and self.now - it.joins_at > SILENCE]
+        if due:
+            furthest = max(range(self.members), key=lambda k: self.hosts[k].given)
+            self.ask(furthest, "state")
+        for it in due:
+            it.joins_at = self.now
 
     def lags(self, host, it):
         """Whether it answers, and for a second has had nothing that others have; and then until it has caught up."""
@@ -372,6 +399,7 @@ class HostSupervisor:
         self.offers()
         self.releases()
         self.tells()
+        self.joins()
         self.forgets()
         self.write_out()
         return False
