@@ -12,8 +12,9 @@ use Rattle.watched_runs.specs.Sights.{sight}
 use Rattle.watched_runs.specs.declared.mark.Stage.{Stage}
 use Rattle.watched_runs.specs.declared.sight.Sight.{Sight}
 
--- an event of a run: its number, that of the script's event that brought it, what it did, the letter that it delivers, the letters and the outputs that it brought,
--- and what is seen of the node that it asks; letters are numbered from a number on
+-- an event of a run: its number, that of the script's event that brought it, what it did, the letter that it delivers,
+-- the letters and the outputs that it brought, and what is seen of the node that it asks; letters are numbered from a
+-- number on
 pub record Row : Type 0 where
   pub number : ℕ
   pub step : ℕ
