@@ -93,8 +93,8 @@ def cut(moment, place):
 
 
 def paired(one, other):
-    """The database of one time with the log of another one."""
-    kind = SEEN
+    """The database of one time with the log of another one, which needn't show."""
+    kind = EITHER
     if one.database == other.database:
         kind = WHOLE
     elif one.log[:HEAD] == other.log[:HEAD]:
@@ -363,13 +363,13 @@ def halves(bases):
 
 
 def exchanged(bases):
-    """The log of another node. What is there may be that node's, or of another time."""
+    """The log of another node, which needn't show: the database says whose it is."""
     for kept, others in zip(bases, bases[1:] + bases[:1]):
         for one, other in zip(kept[::10], others[::10]):
             whose = f"node {other.node} of {MEMBERS}"
             states = [f"of another node: {whose}", r"log missing: PATH-wal .*", "foreign"]
             faults = [f"store of another node: PATH: {whose}", r"log missing: PATH-wal: .*", r"store: PATH: .*"]
-            yield Case(SEEN, one, one.database, other.log, states, faults)
+            yield Case(EITHER, one, one.database, other.log, states, faults)
 
 
 def main():
