@@ -77,7 +77,8 @@ pub(crate) fn connected<D: Disk + Drop>(
     ensures lost { (loss : Loss) → IsLost (image_of D.Disk files) loss → IfOk result (λ r. HasCleanDisk (file_state r.0) → ⊥) }
     ensures told { NeverLies D.Disk → (D.Disk.is_usable files.log && D.Disk.is_usable files.db) ≡ true → (loss : Loss)
         → IsLost (image_of D.Disk files) loss → IsErrAnd result (TellsLoss loss) }
-    ensures broken { (D.Disk.is_usable files.log && D.Disk.is_usable files.db) ≡ false → result ≡ Err (StartFault.Unopened (OwnerFault.Open OpenFault.Broken)) }
+    ensures broken { (D.Disk.is_usable files.log && D.Disk.is_usable files.db) ≡ false
+        → result ≡ Err (StartFault.Unopened (OwnerFault.Open OpenFault.Broken)) }
 {
     if !files.may_be_used() {
         return Err(refused(OpenFault::Broken));
