@@ -8,7 +8,7 @@ use Rattle.node.specs.View.Standing.{Running, Stopped}
 use Rattle.node.specs.declared.node.Node.{Ghosts as Nodes}
 use Rattle.node.specs.declared.parts.Parts.{Parts}
 use Rattle.node_lines.specs.Input.{IsLine}
-use Rattle.node_service.specs.Batched.{EndsBatchedBy, FailsToTell, ServesBatched}
+use Rattle.node_service.specs.Batched.{DoesNoMore, EndsBatchedBy, FailsToTell, ReadsNoMore, ServesBatched}
 use Rattle.node_service.specs.Texts.{reply_text}
 use Rattle.node_service.specs.declared.batches.BatchedEnd.{BatchedEnd}
 use Rattle.node_service.specs.declared.batches.BatchedEnd.TheVariants as ends
@@ -23,9 +23,9 @@ use Rattle.std.specs.Io.KnownBytes.{Appends}
 use Rattle.upsched_node.specs.Serving.{IsDown, IsUp}
 use Rattle.batched_node.proofs.Memory.{IsPlain, known, memory}
 use Rattle.batched_node.proofs.Running.{IsAt, IsSeated, batched_as, batched_lines, unkept_as, unkept_lines}
-use Rattle.batched_node.specs.Noted.{FailsToStore, IsKept, IsLeftBy}
+use Rattle.kept_node.specs.Noted.{FailsToStore, IsKept, IsLeftBy}
 use Rattle.batched_node.specs.Serves.{BatchedRun, IsAllStored, RunsBatched, ServesBatchedAs, content_of}
-use Rattle.batched_node.specs.declared.store.WriteStore.{Ghosts as Stores}
+use Rattle.kept_node.specs.declared.store.WriteStore.{Ghosts as Stores}
 
 shown_up : (up : Bool) (may : Standing → Type 0) (t : Standing) → up ≡ true → Shown up may t → IsUp t
 shown_up true may t is (stands, view, runs) = subst IsUp (sym runs) tt
@@ -92,12 +92,17 @@ module _ {N A W I O : Type 0} {g : Nodes N} (parts : N → Parts Content) (plain
   is_down b t at up = shown_down (is_up (seat_of b)) (g.stands (node_of (seat_of b))) t (sym (seated.up b) ∙ up) at.0
 
   -- what wasn't stored
-  left_of : (a : A) (i : I) (o : O) (b : A) (j : I) (p : O) (seen unseen waiting : List (List ℕ × Reply)) (s : Standing) (r : Ran a i o b j p seen unseen waiting s) (why : RecordsFault) (given : Reply) (b' : A)
-      → FailsToStore h why given (store_of b) (store_of b') (memory parts plain (seat_of b))
+  left_of : (a : A) (i : I) (o : O) (b : A) (j : I) (p : O) (seen unseen waiting : List (List ℕ × Reply)) (s : Standing) (r : Ran a i o b j p seen unseen waiting s) (why : RecordsFault) (b' : A)
+      → FailsToStore h why (store_of b) (store_of b') (memory parts plain (seat_of b))
       → IsTrue (h.honest (store_of b')) → IsLeftBy why (h.may_find (store_of b')) (content_of r.stored) (content_of r.last)
-  left_of a i o b j p seen unseen waiting s r why given b' fails honest =
+  left_of a i o b j p seen unseen waiting s r why b' fails honest =
       subst (IsLeftBy why (h.may_find (store_of b')) (content_of r.stored)) (sym (known parts plain (seat_of b) r.last r.at.0 r.at.1))
       (fails.left honest (content_of r.stored) (r.kept (fails.honest honest)))
+
+  -- no line is done apart
+  none_apart : (i i' : I) → DoesNoMore keeper input i i' → ReadsNoMore input i i'
+  none_apart i i' (inl none) = none
+  none_apart i i' (inr (line, apart, gives)) = absurd (cc (apart, seated.apart line))
 
   pub serves_as : (end : BatchedEnd) (a : A) (i : I) (o : O) (a' : A) (i' : I) (o' : O) → EndsBatchedBy keeper reply_text input output end a i o a' i' o' → (s : Standing) → At a s → Ends end s i o a' i' o'
   serves_as ends.Input a i o a' i' o' (turns, rest, left, serves, up, gives, reads) s at =
@@ -117,24 +122,24 @@ module _ {N A W I O : Type 0} {g : Nodes N} (parts : N → Parts Content) (plain
         (
           (
             why.0,
-            left_of a i o before rest sent turns [] waiting s r why.0 given a' why.1,
-            subst (λ (x : Reply). Appends (output.bytes_held sent) (output.bytes_held o') (reply_text x)) why.1.tells tells,
+            left_of a i o before rest sent turns [] waiting s r why.0 a' why.2,
+            subst (λ (x : Reply). Appends (output.bytes_held sent) (output.bytes_held o') (reply_text x)) why.1 tells,
           ),
           refl,
-          no_more,
+          none_apart rest i' no_more,
         ),
       )
   serves_as (ends.Unwritten why) a i o a' i' o' (turns, unseen, waiting, before, rest, sent, serves, no_more, inl (same, fails)) s at =
       let r = ran turns unseen waiting a i o before rest sent s serves at in (
         record { seen = turns; unseen = unseen; waiting = waiting; stored = r.stored; last = r.last; rest = rest; sent = sent },
         r.runs,
-        (inl (subst (λ (x : A). IsKept h (store_of x) (content_of r.stored)) (sym same) r.kept, inl fails), no_more),
+        (inl (subst (λ (x : A). IsKept h (store_of x) (content_of r.stored)) (sym same) r.kept, inl fails), none_apart rest i' no_more),
       )
   serves_as (ends.Unwritten why) a i o a' i' o' (turns, unseen, waiting, before, rest, sent, serves, no_more, inr (inl (turn, later, is, same, fails))) s at =
       let r = ran turns unseen waiting a i o before rest sent s serves at in (
         record { seen = turns; unseen = unseen; waiting = waiting; stored = r.stored; last = r.last; rest = rest; sent = sent },
         r.runs,
-        (inl (subst (λ (x : A). IsKept h (store_of x) (content_of r.stored)) (sym same) r.kept, inr (turn, later, is, fails)), no_more),
+        (inl (subst (λ (x : A). IsKept h (store_of x) (content_of r.stored)) (sym same) r.kept, inr (turn, later, is, fails)), none_apart rest i' no_more),
       )
   serves_as (ends.Unwritten why) a i o a' i' o' (turns, unseen, waiting, before, rest, sent, serves, no_more, inr (inr (given, fails, untold))) s at =
       let r = ran turns unseen waiting a i o before rest sent s serves at in
@@ -144,10 +149,10 @@ module _ {N A W I O : Type 0} {g : Nodes N} (parts : N → Parts Content) (plain
         (
           inr (
             fault.0,
-            left_of a i o before rest sent turns unseen waiting s r fault.0 given a' fault.1,
-            subst (λ (x : Reply). FailsToTell output (reply_text x) why sent o') fault.1.tells untold,
+            left_of a i o before rest sent turns unseen waiting s r fault.0 a' fault.2,
+            subst (λ (x : Reply). FailsToTell output (reply_text x) why sent o') fault.1 untold,
           ),
-          no_more,
+          none_apart rest i' no_more,
         ),
       )
   serves_as ends.Spent a i o a' i' o' (turns, serves, count) s at =

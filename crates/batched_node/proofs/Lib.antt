@@ -1,4 +1,3 @@
-mod Once
 mod Memory
 mod Noting
 mod Running

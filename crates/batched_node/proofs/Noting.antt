@@ -1,17 +1,14 @@
 -- What waits leads from what a store holds to what the node has in memory.
-use Rattle.std.proofs.Common.{◌≡◌, ℕ, ◌<◌, ◌==◌, List, [], ◌∷◌, ◌++◌, Bool, true, false, Option, Some, None, refl, sym}
-use Rattle.std.proofs.Common.{ap, subst, ◌∙◌, arith, IsTrue, if◌then◌else◌}
-use Rattle.std.proofs.lemmas.Bool.{eqb-true}
-use Rattle.std.proofs.Common.{Vec}
+use Rattle.std.proofs.Common.{◌≡◌, ℕ, ◌<◌, ◌==◌, List, [], ◌∷◌, ◌++◌, Bool, true, false, Option, None, refl, sym}
+use Rattle.std.proofs.Common.{Vec, ap, subst, ◌∙◌, arith, IsTrue, if◌then◌else◌}
 use Rattle.std.specs.declared.alloc.Global.{Global}
-use Rattle.acceptor.specs.Content.{AreRowsFrom, Content, Write, after_write}
-use Rattle.acceptor.specs.Content.Write.{Tries, Promises, Votes, Learns}
-use Rattle.acceptor.specs.Faults.{IsHarmless}
-use Rattle.acceptor.specs.Found.{Findable, FindsSame, Holds, HoldsEither}
-use Rattle.acceptor.specs.declared.records.RecordsFault.{RecordsFault}
-use Rattle.acceptor.specs.declared.records.RecordsFault.TheVariants.{Refused, Broken, OutOfMemory}
-use Rattle.acceptor.proofs.Callers.{still_holds}
+use Rattle.acceptor.specs.Content.{AreRowsFrom, Content}
+use Rattle.acceptor.specs.Found.{Holds}
 use Rattle.ballots.specs.declared.letters.Letter.{Letter}
+use Rattle.kept_node.specs.Noted.{HasKept, IsKept, NotesTo}
+use Rattle.kept_node.specs.declared.noted.NotedWrites.{NotedWrites}
+use Rattle.kept_node.specs.declared.store.WriteStore.{Ghosts as Stores}
+use Rattle.kept_node.proofs.Callers.{began as kept_began, kept_then, notes_on}
 use Rattle.node.specs.Calls.{Cause, Who}
 use Rattle.node.specs.Calls.Cause.{Lead as AskedToLead, Offer as Offered, Receive as Received, Tell as AskedToTell}
 use Rattle.node.specs.Step.{Outcome}
@@ -22,47 +19,27 @@ use Rattle.node.specs.declared.parts.Parts.{Parts}
 use Rattle.node_lines.specs.declared.request.Request.{Request}
 use Rattle.node_lines.specs.declared.request.Request.TheVariants as request
 use Rattle.node_service.specs.Seated.{DoesAsAsked}
-use Rattle.node_writes.specs.Writes.{LeadTo, Spells, SpellsOf}
+use Rattle.node_writes.specs.Writes.{LeadTo, SpellsOf}
 use Rattle.node_writes.specs.declared.write_bytes.WriteBytes.{WriteBytes}
-use Rattle.node_writes.proofs.Callers.{lead_once}
 use Rattle.seats.specs.Seat.{Shown}
 use Rattle.seats.specs.Occupant.{Stands, is_up, node_of, who_of}
 use Rattle.seats.specs.declared.acted.Acted.{Acted}
 use Rattle.seats.specs.declared.acted.Acted.TheVariants as acted
 use Rattle.seats.specs.declared.seat.Seat.{Seat}
-use Rattle.told_writes.proofs.Callers.{lead_rows, leads_on}
+use Rattle.told_writes.proofs.Callers.{leads_on}
 use Rattle.told_writes.specs.States.{NodeState}
 use Rattle.told_writes.specs.Told.{IsToldOf}
 use Rattle.told_writes.specs.Telling.{IsOpen, WritesAfter}
-use Rattle.batched_node.proofs.Memory.{Effect, IsPlain, IsSure, Leads, known, memory, moved, stands_up, view_is}
-use Rattle.batched_node.proofs.Memory.{view_of}
-use Rattle.batched_node.proofs.Once.{holds_once}
-use Rattle.batched_node.specs.Noted.{IsKept, IsLeftBy, IsNoted}
+use Rattle.batched_node.proofs.Memory.{Effect, IsPlain, IsSure, Leads, known, memory, moved, stands_up, view_of}
+use Rattle.batched_node.specs.Noted.{IsAllNoted}
 use Rattle.batched_node.specs.Serves.{content_of}
 use Rattle.batched_node.specs.Told.{IsOpenFor, IsWriteOf}
-use Rattle.batched_node.specs.declared.store.WriteStore.{Ghosts as Stores}
 
--- writes, and then others
-lead_then : (id : ℕ) (rs later : List WriteBytes) (c mid last : Content) → LeadTo id rs c mid → LeadTo id later mid last → LeadTo id (rs ++ later) c last
-lead_then id [] later c mid last led more = subst (λ (x : Content). LeadTo id later x last) led more
-lead_then id (r ∷ rs) later c mid last led more = (led.0, led.1, lead_then id rs later (after_write c led.0) mid last led.2 more)
-
--- bytes that say there is no write change nothing
-writes_none : (r : WriteBytes) (write : Option Write) (c : Content) → Spells r write → r.kind ≡ 0 → after_write c write ≡ c
-writes_none r None c spells none = refl
-writes_none r (Some (Tries b)) c spells none = absurd (omega (arith, spells.0, none))
-writes_none r (Some (Promises b)) c spells none = absurd (omega (arith, spells.0, none))
-writes_none r (Some (Votes p cast)) c spells none = absurd (omega (arith, spells.0, none))
-writes_none r (Some (Learns p v)) c spells none = absurd (omega (arith, spells.0, none))
-
--- one that is a write waits behind the others
-lead_more : (id : ℕ) (rs : List WriteBytes) (r : WriteBytes) (c mid last : Content) → LeadTo id rs c mid → LeadTo id (r ∷ []) mid last
-    → LeadTo id (if r.kind == 0 then rs else rs ++ r ∷ []) c last
-lead_more id rs r c mid last led one = by_kind (r.kind == 0) refl
-  where
-    by_kind : (is_none : Bool) → is_none ≡ (r.kind == 0) → LeadTo id (if is_none then rs else rs ++ r ∷ []) c last
-    by_kind true is = subst (LeadTo id rs c) (sym (writes_none r one.0 mid one.1.2 (eqb-true r.kind 0 (sym is))) ∙ sym one.2) led
-    by_kind false is = lead_then id rs (r ∷ []) c mid last led one
+-- a write was noted, for which there was room
+pub record Notes {W : Type 0} (old : NotedWrites W) (r : WriteBytes) (new : NotedWrites W) : Type 0 where
+  pub store : new.store ≡ old.store
+  pub waits : new.ended ≡ None → new.waiting.items ≡ (if r.kind == 0 then old.waiting.items else old.waiting.items ++ r ∷ [])
+  pub ended : new.ended ≡ old.ended
 
 -- nothing was sent
 abbrev pub NotSent : Acted → Type 0
@@ -152,114 +129,55 @@ module _ {N : Type 0} {g : Nodes N} (parts : N → Parts Content) (plain : IsPla
           release_writes (acted.Refused refusal) writes = writes
 
   -- so what waits leads on, with this write
-  pub noted_on : {W : Type 0} (h : Stores W) (store : W) (a b : Seat N g) (asked : Request) (given : Acted) (place : Option ℕ) (r : WriteBytes) (ws later : List WriteBytes)
+  noted_on : {W : Type 0} (h : Stores W) (old new : NotedWrites W) (a b : Seat N g) (asked : Request) (given : Acted) (place : Option ℕ) (r : WriteBytes)
       → is_up a ≡ true → DoesAsAsked a asked given b → IsOpenFor (g.values (node_of a)) asked place → IsWriteOf (who_of b).id (g.values (node_of b)) asked given place r
-      → later ≡ (if r.kind == 0 then ws else ws ++ r ∷ []) → IsNoted h store (who_of a) ws (memory parts plain a) → IsNoted h store (who_of b) later (memory parts plain b)
-  noted_on h store a b asked given place r ws later up does opened writes is noted =
+      → Notes old r new → IsAllNoted h old (who_of a) (memory parts plain a) → IsAllNoted h new (who_of b) (memory parts plain b)
+  noted_on h old new a b asked given place r up does opened writes notes noted =
       let me = does.same.0 in
       let all = does.same.1 in
-      let view = view_of parts plain a in
-      let move = moved parts plain a b asked given up does view (stands_up parts plain a up) in
+      let goes_on : new.ended ≡ None = notes.ended ∙ noted.goes_on in
+      let move = moved parts plain a b asked given up does (view_of parts plain a) (stands_up parts plain a up) in
       record {
         some = omega (arith, noted.some, all);
-        noted = λ honest.
-            let base = noted.noted honest in
-            let ordered = lead_rows (who_of a).id ws base.0 (memory parts plain a) base.1.leads base.1.ordered in
-            let one = asked_leads a b me place r noted.some ordered asked given move.0.standing move.5 move.4 opened writes in (
-              base.0,
-              record {
-                holds = base.1.holds;
-                ordered = base.1.ordered;
-                leads = subst (λ (id : ℕ). LeadTo id later base.0 (memory parts plain b)) (sym me)
-                    (subst (λ (ws : List WriteBytes). LeadTo (who_of a).id ws base.0 (memory parts plain b)) (sym is)
-                    (lead_more (who_of a).id ws r base.0 (memory parts plain a) (memory parts plain b) base.1.leads one));
-              },
-            );
+        goes_on = goes_on;
+        waits = notes_on h old new r (who_of a).id (who_of b).id (memory parts plain a) (memory parts plain b) notes.store notes.waits (λ goes. noted.goes_on) me
+            (λ ordered. asked_leads a b me place r noted.some ordered asked given move.0.standing move.5 move.4 opened writes) (λ goes. noted.waits) goes_on;
       }
 
--- where nothing waits the store holds what the node has
-pub kept_then : {W : Type 0} (h : Stores W) (store : W) (who : Who) (ws : List WriteBytes) (c : Content) → ws ≡ [] → IsNoted h store who ws c → IsKept h store c
-kept_then h store who ws c none noted honest =
-    let base = noted.noted honest in
-    let same : c ≡ base.0 = subst (λ (rs : List WriteBytes). LeadTo who.id rs base.0 c) none base.1.leads in
-    subst (Holds (h.may_find store)) (sym same) base.1.holds
-
--- what was stored is what the node has
-pub stored : {W : Type 0} (h : Stores W) (old new : W) (who : Who) (ws : List WriteBytes) (c : Content) → (IsTrue (h.honest new) → IsTrue (h.honest old))
-    → (IsTrue (h.honest new) → (d : Content) → Holds (h.may_find old) d → (last : Content) × LeadTo who.id ws d last × Holds (h.may_find new) last)
-    → IsNoted h old who ws c → IsNoted h new who [] c
-stored h old new who ws c trust made noted = record {
-  some = noted.some;
-  noted = λ honest.
-      let base = noted.noted (trust honest) in
-      let there = made honest base.0 base.1.holds in
-      let same : there.0 ≡ c = lead_once who.id ws base.0 there.0 c there.1 base.1.leads in (
-        c,
-        record {
-          holds = subst (Holds (h.may_find new)) same there.2;
-          ordered = lead_rows who.id ws base.0 c base.1.leads base.1.ordered;
-          leads = refl;
-        },
-      );
-}
-
--- what wasn't stored is left by its fault
-left_by : (why : RecordsFault) (old new : Findable) (base c : Content) → (IsHarmless why → FindsSame old new) → HoldsEither new base c → Holds old base → IsLeftBy why new base c
-left_by Refused old new base c same doubt holds = still_holds old new base (same tt) holds
-left_by OutOfMemory old new base c same doubt holds = still_holds old new base (same tt) holds
-left_by Broken old new base c same doubt holds = doubt
-
-pub left_so : {W : Type 0} (h : Stores W) (why : RecordsFault) (old new : W) (who : Who) (ws : List WriteBytes) (c : Content) → (IsTrue (h.honest new) → IsTrue (h.honest old))
-    → (IsTrue (h.honest new) → (IsHarmless why → FindsSame (h.may_find old) (h.may_find new))
-    × ((d last : Content) → Holds (h.may_find old) d → LeadTo who.id ws d last → HoldsEither (h.may_find new) d last))
-    → IsNoted h old who ws c → IsTrue (h.honest new) → (base : Content) → Holds (h.may_find old) base → IsLeftBy why (h.may_find new) base c
-left_so h why old new who ws c trust writes noted honest base holds =
-    let from = noted.noted (trust honest) in
-    let same : from.0 ≡ base = holds_once (h.may_find old) from.0 base from.1.holds holds in
-    let led : LeadTo who.id ws base c = subst (λ (d : Content). LeadTo who.id ws d c) same from.1.leads in
-    left_by why (h.may_find old) (h.may_find new) base c (writes honest).0 ((writes honest).1 base c holds led) holds
-
 -- the same, with the seats told first, and their nodes as they are seen
-pub noted_after : {N W : Type 0} {g : Nodes N} (a b : Seat N g) (m n : N) → m ≡ node_of a → n ≡ node_of b → (parts : N → Parts Content) (plain : IsPlain g parts) (h : Stores W) (store : W) (asked : Request) (given : Acted) (place : Option ℕ) (r : WriteBytes) (ws later : List WriteBytes)
+pub noted_after : {N W : Type 0} {g : Nodes N} (a b : Seat N g) (m n : N) → m ≡ node_of a → n ≡ node_of b → (parts : N → Parts Content) (plain : IsPlain g parts) (h : Stores W) (old new : NotedWrites W) (asked : Request) (given : Acted) (place : Option ℕ) (r : WriteBytes)
     → is_up a ≡ true → DoesAsAsked a asked given b → IsOpenFor (g.values m) asked place → IsWriteOf (g.who n).id (g.values n) asked given place r
-    → later ≡ (if r.kind == 0 then ws else ws ++ r ∷ []) → IsNoted h store (who_of a) ws (parts (node_of a)).records → IsNoted h store (who_of b) later (parts (node_of b)).records
-noted_after {N} {W} {g} a b m n before after parts plain h store asked given place r ws later up does opened writes is noted =
-    noted_on parts plain h store a b asked given place r ws later up does (subst (λ (x : N). IsOpenFor (g.values x) asked place) before opened)
-    (subst (λ (x : N). IsWriteOf (g.who x).id (g.values x) asked given place r) after writes) is noted
+    → Notes old r new → IsAllNoted h old (who_of a) (parts (node_of a)).records → IsAllNoted h new (who_of b) (parts (node_of b)).records
+noted_after {N} {W} {g} a b m n before after parts plain h old new asked given place r up does opened writes notes noted =
+    noted_on parts plain h old new a b asked given place r up does (subst (λ (x : N). IsOpenFor (g.values x) asked place) before opened)
+    (subst (λ (x : N). IsWriteOf (g.who x).id (g.values x) asked given place r) after writes) notes noted
 
 -- a node that begins beside a store that holds what it holds
-pub began : {N W : Type 0} {g : Nodes N} (seat : Seat N g) (parts : N → Parts Content) (plain : IsPlain g parts) (h : Stores W) (store : W) (ws : List WriteBytes) (n : N) → node_of seat ≡ n → 0 < (g.who n).members → ws ≡ []
+pub began : {N W : Type 0} {g : Nodes N} (seat : Seat N g) (parts : N → Parts Content) (plain : IsPlain g parts) (h : Stores W) (noted : NotedWrites W) (store : W) (n : N) → node_of seat ≡ n → 0 < (g.who n).members
+    → noted.store ≡ store → noted.waiting.items ≡ [] → noted.ended ≡ None
     → (IsTrue (h.honest store) → (view : View) × g.stands n (Running view) × Holds (h.may_find store) view.content × AreRowsFrom 1 view.content.votes)
-    → IsNoted h store (who_of seat) ws (parts (node_of seat)).records
-began {N} {W} {g} seat parts plain h store ws n is some none holds =
-    let id = (who_of seat).id in
-    record {
-      some = subst (λ (m : N). 0 < (g.who m).members) (sym is) some;
-      noted = λ honest.
-          let at = holds honest in
-          let same : at.0.content ≡ (parts (node_of seat)).records = view_is parts plain n at.0 at.1 ∙ sym (ap (λ (m : N). (parts m).records) is) in
-          (at.0.content, record { holds = at.2; ordered = at.3; leads = subst (λ (rs : List WriteBytes). LeadTo id rs at.0.content (parts (node_of seat)).records) (sym none) (sym same) });
-    }
+    → IsAllNoted h noted (who_of seat) (parts (node_of seat)).records × IsKept h noted.store (parts (node_of seat)).records
+began {N} {W} {g} seat parts plain h noted store n is some same none goes_on holds =
+    let both = begins in (
+      record { some = subst (λ (m : N). 0 < (g.who m).members) (sym is) some; goes_on = goes_on; waits = both.0 goes_on },
+      both.1.kept,
+    )
+  where
+    begins : NotesTo h noted (who_of seat).id (parts (node_of seat)).records × HasKept h noted (parts (node_of seat)).records
+    begins = subst (λ (m : N). NotesTo h noted (g.who m).id (parts m).records × HasKept h noted (parts m).records) (sym is)
+        (subst (λ (w : Who). NotesTo h noted w.id (parts n).records × HasKept h noted (parts n).records) (sym (plain.who n))
+        (kept_began h noted store (parts n) same none goes_on
+        (λ honest. let at = holds honest in (at.0, plain.stands n (Running at.0) at.1, at.2, at.3))))
 
--- what a commit stored of writes that are told otherwise, after which none waits
-pub committed : {W : Type 0} (h : Stores W) (old new : W) (who : Who) (ws : List WriteBytes) (c : Content) (id : ℕ) (seen later : List WriteBytes) → id ≡ who.id → seen ≡ ws → later ≡ []
-    → (IsTrue (h.honest new) → IsTrue (h.honest old))
-    → (IsTrue (h.honest new) → (d : Content) → Holds (h.may_find old) d → (last : Content) × LeadTo id seen d last × Holds (h.may_find new) last)
-    → IsNoted h old who ws c → IsNoted h new who later c
-committed h old new who ws c id seen later me same none trust made noted =
-    subst (λ (rs : List WriteBytes). IsNoted h new who rs c) (sym none)
-    (stored h old new who ws c trust (λ honest d holds.
-    let there = made honest d holds in
-    (there.0, subst (λ (n : ℕ). LeadTo n ws d there.0) me (subst (λ (rs : List WriteBytes). LeadTo id rs d there.0) same there.1), there.2)) noted)
+-- what a commit stored of writes that are told otherwise
+pub committed : {W : Type 0} (h : Stores W) (old new : NotedWrites W) (who : Who) (c : Content) (seen : ℕ) → seen ≡ who.id → new.ended ≡ None → ((d : Content) → NotesTo h old seen d → NotesTo h new seen d)
+    → IsAllNoted h old who c → IsAllNoted h new who c
+committed h old new who c seen me goes_on stored noted = record {
+  some = noted.some;
+  goes_on = goes_on;
+  waits = subst (λ (n : ℕ). NotesTo h new n c) me (stored c (subst (λ (n : ℕ). NotesTo h old n c) (sym me) (λ goes. noted.waits))) goes_on;
+}
 
--- and what is left where it failed
-pub uncommitted : {W : Type 0} (h : Stores W) (why : RecordsFault) (old new : W) (who : Who) (ws : List WriteBytes) (c : Content) (id : ℕ) (seen : List WriteBytes) → id ≡ who.id → seen ≡ ws
-    → (IsTrue (h.honest new) → IsTrue (h.honest old))
-    → (IsTrue (h.honest new) → (IsHarmless why → FindsSame (h.may_find old) (h.may_find new))
-    × ((d last : Content) → Holds (h.may_find old) d → LeadTo id seen d last → HoldsEither (h.may_find new) d last))
-    → IsNoted h old who ws c → IsTrue (h.honest new) → (base : Content) → Holds (h.may_find old) base → IsLeftBy why (h.may_find new) base c
-uncommitted h why old new who ws c id seen me same trust writes noted =
-    left_so h why old new who ws c trust (λ honest. (
-      (writes honest).0,
-      λ d last holds led. (writes honest).1 d last holds (subst (λ (n : ℕ). LeadTo n seen d last) (sym me) (subst (λ (rs : List WriteBytes). LeadTo who.id rs d last) (sym same) led)),
-    )) noted
+-- and then the store holds what the node has
+pub kept_after : {W : Type 0} (h : Stores W) (noted : NotedWrites W) (who : Who) (c : Content) → noted.waiting.items ≡ [] → IsAllNoted h noted who c → IsKept h noted.store c
+kept_after h noted who c none all = kept_then h noted.store who.id noted.waiting.items c none all.waits

@@ -24,16 +24,18 @@ use Rattle.seats.specs.Seat.{SameMember, Shown}
 use Rattle.seats.specs.declared.seat.Seat.{Seat}
 use Rattle.upsched_node.specs.Serving.{RepliesAs, RunsAs}
 use Rattle.batched_node.proofs.Memory.{IsPlain, IsSure, memory, moved, surely}
-use Rattle.batched_node.specs.Noted.{FailsToStore, IsKept, RepliesBy}
-use Rattle.batched_node.specs.declared.store.WriteStore.{Ghosts as Stores}
+use Rattle.batched_node.specs.Noted.{RepliesBy, fault_of}
+use Rattle.kept_node.specs.Noted.{FailsToStore, IsKept}
+use Rattle.kept_node.specs.declared.store.WriteStore.{Ghosts as Stores}
 
 -- what keeps is a node in its seat, beside a store
 pub record IsSeated {A W N : Type 0} {g : Nodes N} (h : Stores W) (parts : N → Parts Content) (plain : IsPlain g parts) (keeper : Keepers A Reply) (seat_of : A → Seat N g) (store_of : A → W) : Type 0 where
   pub up : (a : A) → keeper.up a ≡ is_up (seat_of a)
   pub replies : (a : A) (came : Result (List ℕ) LineFault) (given : Reply) (b : A) → keeper.replies a came given b → RepliesBy (seat_of a) came given (seat_of b) × (store_of b ≡ store_of a)
   pub commits : (a b : A) → keeper.commits a b → seat_of b ≡ seat_of a
+  pub apart : (line : List ℕ) → keeper.is_apart line ≡ false
   pub kept : (a : A) → keeper.has_kept a → IsKept h (store_of a) (memory parts plain (seat_of a))
-  pub fails : (a : A) (given : Reply) (b : A) → keeper.fails a given b → (why : RecordsFault) × FailsToStore h why given (store_of a) (store_of b) (memory parts plain (seat_of a))
+  pub fails : (a : A) (given : Reply) (b : A) → keeper.fails a given b → (why : RecordsFault) × (given ≡ fault_of why) × FailsToStore h why (store_of a) (store_of b) (memory parts plain (seat_of a))
 
 -- what was read asks what the line asks
 asks_it : (line : List ℕ) (came : Result (List ℕ) LineFault) (asked : Request) → IsCameOf line came → IsAskedBy came asked → Asks line asked

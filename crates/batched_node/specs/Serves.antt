@@ -16,12 +16,10 @@ use Rattle.node_service.specs.declared.batches.BatchedEnd.TheVariants as ends
 use Rattle.node_service.specs.declared.lines.Lines.{Ghosts as Inputs}
 use Rattle.node_service.specs.declared.outbox.Outbox.{Ghosts as Outputs}
 use Rattle.node_service.specs.declared.outgoing.Reply.{Reply}
-use Rattle.node_service.specs.declared.outgoing.Reply.TheVariants as reply
-use Rattle.proposer.specs.Faults.{told}
-use Rattle.seats.specs.declared.acted.Acted.TheVariants as acted
 use Rattle.upsched_node.specs.Serving.{IsDown, IsUp, RunsAs}
-use Rattle.batched_node.specs.Noted.{IsLeftBy}
-use Rattle.batched_node.specs.declared.store.WriteStore.{Ghosts as Stores}
+use Rattle.kept_node.specs.Noted.{IsLeftBy}
+use Rattle.kept_node.specs.declared.store.WriteStore.{Ghosts as Stores}
+use Rattle.batched_node.specs.Noted.{fault_of}
 
 -- the content of a node, wherever it stands
 abbrev pub content_of : Standing → Content
@@ -54,9 +52,9 @@ pub record IsAllStored {W I O : Type 0} (h : Stores W) (store : W) (run : Batche
   pub none_waits : run.waiting ≡ []
   pub left : IsTrue (h.honest store) → Holds (h.may_find store) (content_of run.last)
 
--- what is told of writes that weren't stored: the node's fault
+-- the text of what is told of writes that weren't stored
 abbrev pub fault_text : RecordsFault → List ℕ
-fault_text why = reply_text (reply.Acted (acted.Fault (told why)))
+fault_text why = reply_text (fault_of why)
 
 -- writes that wait weren't stored for this fault, and an honest store has what is left by it
 abbrev pub IsLeft : {W I O : Type 0} → Stores W → W → BatchedRun I O → RecordsFault → Type 0

@@ -4,8 +4,8 @@ ghost use Rattle.std.specs.Prelude.{◌≡◌, false};
 ghost use Rattle.seats.specs.Occupant.{is_up};
 
 use crate::seat::BatchedSeat;
-use crate::store::WriteStore;
 use ballots::Bytes;
+use kept_node::WriteStore;
 use node::{Node, NodeFault};
 use node_lines::LineFault;
 use node_service::{Keeper, Reply, request_of};
@@ -20,29 +20,37 @@ fn crash(seat: &mut Seat<PlainNode>)
 }
 
 impl<W: WriteStore> Keeper for BatchedSeat<W> {
-    ghost use Rattle.std.specs.Prelude.{◌≡◌, ◌<◌, vec_capacity, vec_len};
+    ghost use Rattle.std.specs.Prelude.{◌≡◌, ◌<◌, false, vec_capacity};
     ghost use Rattle.acceptor.specs.declared.records.RecordsFault.{RecordsFault};
-    ghost use Rattle.batched_node.specs.Noted.{FailsToStore, IsKept, IsNoted, RepliesBy};
+    ghost use Rattle.batched_node.specs.Noted.{IsAllNoted, RepliesBy, fault_of};
+    ghost use Rattle.kept_node.specs.Noted.{FailsToStore, HasRoom, IsKept};
     ghost use Rattle.seats.specs.Occupant.{is_up, node_of, who_of};
 
     type Reply = Reply;
 
     ghost up = { λ b. is_up b.seat };
 
-    ghost replies = { λ old came given new. RepliesBy old.seat came given new.seat × (new.store ≡ old.store) };
+    ghost replies = { λ old came given new. RepliesBy old.seat came given new.seat × (new.noted.store ≡ old.noted.store) };
 
-    ghost has_noted = { λ b. IsNoted W.WriteStore b.store (who_of b.seat) b.waiting.items (node_of b.seat).parts.records × (0 < vec_capacity b.waiting) };
+    ghost has_noted = { λ b. IsAllNoted W.WriteStore b.noted (who_of b.seat) (node_of b.seat).parts.records × (0 < vec_capacity b.noted.waiting) };
 
-    ghost has_room = { λ b. vec_len b.waiting < vec_capacity b.waiting };
+    ghost is_apart = { λ line. false };
 
-    ghost has_kept = { λ b. IsKept W.WriteStore b.store (node_of b.seat).parts.records };
+    ghost has_room = { λ b. HasRoom b.noted };
+
+    ghost has_kept = { λ b. IsKept W.WriteStore b.noted.store (node_of b.seat).parts.records };
 
     ghost commits = { λ old new. new.seat ≡ old.seat };
 
-    ghost fails = { λ old given new. (why : RecordsFault) × FailsToStore W.WriteStore why given old.store new.store (node_of old.seat).parts.records };
+    ghost fails = { λ old given new. (why : RecordsFault) × (given ≡ fault_of why)
+        × FailsToStore W.WriteStore why old.noted.store new.noted.store (node_of old.seat).parts.records };
 
     fn can_act(&self) -> bool {
         self.seat.is_up()
+    }
+
+    fn is_apart(&self, line: &Bytes) -> bool {
+        false
     }
 
     fn reply_to(&mut self, alloc: Global, line: Result<Bytes, LineFault>) -> Reply {
@@ -53,20 +61,17 @@ impl<W: WriteStore> Keeper for BatchedSeat<W> {
     }
 
     fn waits(&self) -> bool {
-        !self.waiting.is_empty()
+        self.noted.waits()
     }
 
     fn is_full(&self) -> bool {
-        self.waiting.len() >= self.waiting.capacity()
+        self.noted.is_full()
     }
 
     fn commit(&mut self) -> Result<(), Reply> {
         let id = self.seat.node().id();
-        match self.store.store_all(id, &self.waiting) {
-            Ok(()) => {
-                self.waiting.clear();
-                Ok(())
-            }
+        match self.noted.store_waiting(id) {
+            Ok(()) => Ok(()),
             Err(fault) => {
                 crash(&mut self.seat);
                 Err(Reply::Acted(Acted::Fault(NodeFault::from(fault))))

@@ -4,9 +4,6 @@
 mod keeping;
 mod seat;
 mod serving;
-mod sql;
-mod store;
 
 pub use seat::BatchedSeat;
 pub use serving::serve_batched_member;
-pub use store::WriteStore;

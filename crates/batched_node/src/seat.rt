@@ -1,16 +1,16 @@
 //! A node in memory, the store of its writes, and what waits to be stored.
 
-ghost use Rattle.std.specs.Prelude.{◌≡◌, ◌<◌, [], false, true, vec_capacity, vec_len, IfOk, IsTrue, ◌++◌, ◌∷◌};
-ghost use Rattle.std.specs.Prelude.{if◌then◌else◌, ◌==◌};
+ghost use Rattle.std.specs.Prelude.{◌≡◌, ◌<◌, false, true, vec_capacity, IfOk, IsTrue};
 ghost use Rattle.acceptor.specs.Content.{AreRowsFrom, Content};
 ghost use Rattle.acceptor.specs.Found.{Holds};
-ghost use Rattle.batched_node.specs.Noted.{IsKept, IsNoted};
+ghost use Rattle.batched_node.specs.Noted.{IsAllNoted};
 ghost use Rattle.batched_node.specs.Told.{IsOpenFor, IsWriteFor, IsWriteOf};
+ghost use Rattle.kept_node.specs.Noted.{HasRoom, IsKept};
 ghost use Rattle.node_service.specs.Seated.{DoesAsAsked};
 ghost use Rattle.seats.specs.Occupant.{is_up, node_of, who_of};
 
-use crate::store::WriteStore;
 use ballots::{Letter, Place};
+use kept_node::{NotedWrites, WriteStore};
 use node::Node;
 use node_lines::Request;
 use node_service::Actor;
@@ -19,16 +19,12 @@ use seats::{Acted, PlainNode, Seat};
 use std::alloc::{AllocError, Global};
 use told_writes::{place_open, write_after};
 
-/// The most writes that wait.
-const MOST_WAITING: usize = 1024;
-
 /// A node in its seat, with its records in memory, beside the store that is to hold what these hold. The writes of its
 /// calls wait until they are stored together.
 #[derive(Drop)]
 pub struct BatchedSeat<W: WriteStore> {
     pub(crate) seat: Seat<PlainNode>,
-    pub(crate) store: W,
-    pub(crate) waiting: Vec<WriteBytes>,
+    pub(crate) noted: NotedWrites<W>,
 }
 
 /// The place of which what is asked may teach a value, where none is learned yet.
@@ -66,17 +62,6 @@ fn write_of<N: Node>(node: &N, asked: &Request, acted: &Acted, place: Option<Pla
     }
 }
 
-/// Lets a write wait, if it is one.
-fn note(waiting: &mut Vec<WriteBytes>, write: WriteBytes)
-    requires { vec_len waiting.old < vec_capacity waiting.old }
-    ensures items { waiting.new.items ≡ (if write.kind == 0 then waiting.old.items else waiting.old.items ++ write ∷ []) }
-    ensures capacity { vec_capacity waiting.new ≡ vec_capacity waiting.old }
-{
-    if write.kind != 0 {
-        waiting.push_reserved(write);
-    }
-}
-
 impl<W: WriteStore> BatchedSeat<W> {
     ghost use Rattle.acceptor.specs.Content.{AreRowsFrom};
     ghost use Rattle.node.specs.View.{View};
@@ -91,52 +76,47 @@ impl<W: WriteStore> BatchedSeat<W> {
             × AreRowsFrom 1 view.content.votes }
         ensures node { IfOk result (λ b. node_of b.seat ≡ node) }
         ensures up { IfOk result (λ b. is_up b.seat ≡ true) }
-        ensures store { IfOk result (λ b. b.store ≡ store) }
-        ensures noted { IfOk result (λ b. IsNoted W.WriteStore b.store (who_of b.seat) b.waiting.items (node_of b.seat).parts.records) }
-        ensures kept { IfOk result (λ b. IsKept W.WriteStore b.store (node_of b.seat).parts.records) }
-        ensures room { IfOk result (λ b. vec_len b.waiting < vec_capacity b.waiting) }
+        ensures store { IfOk result (λ b. b.noted.store ≡ store) }
+        ensures noted { IfOk result (λ b. IsAllNoted W.WriteStore b.noted (who_of b.seat) (node_of b.seat).parts.records) }
+        ensures kept { IfOk result (λ b. IsKept W.WriteStore b.noted.store (node_of b.seat).parts.records) }
+        ensures room { IfOk result (λ b. HasRoom b.noted) }
     {
-        let waiting = Vec::with_capacity(alloc, MOST_WAITING)?;
+        let noted = NotedWrites::new(alloc, store)?;
         Ok(BatchedSeat {
             seat: Seat::new(node),
-            store,
-            waiting,
+            noted,
         })
     }
 
     /// The store.
     pub fn store(&self) -> &W
-        ensures { result.now ≡ self.now.store }
+        ensures { result.now ≡ self.now.noted.store }
     {
-        &self.store
+        self.noted.store()
     }
 
     /// The store, where the node is let go.
     pub fn into_store(self) -> W
-        ensures { result ≡ self.store }
+        ensures { result ≡ self.noted.store }
     {
-        let BatchedSeat {
-            seat: _,
-            store,
-            waiting: _,
-        } = self;
-        store
+        let BatchedSeat { seat: _, noted } = self;
+        noted.into_store()
     }
 
     /// The node does what it is asked, and the write of that waits.
     pub(crate) fn obey(&mut self, asked: &Request) -> Acted
         requires up { is_up self.old.seat ≡ true }
-        requires noted { IsNoted W.WriteStore self.old.store (who_of self.old.seat) self.old.waiting.items (node_of self.old.seat).parts.records }
-        requires room { vec_len self.old.waiting < vec_capacity self.old.waiting }
+        requires noted { IsAllNoted W.WriteStore self.old.noted (who_of self.old.seat) (node_of self.old.seat).parts.records }
+        requires room { HasRoom self.old.noted }
         ensures acts { DoesAsAsked self.old.seat asked.now result self.new.seat }
-        ensures store { self.new.store ≡ self.old.store }
-        ensures noted { IsNoted W.WriteStore self.new.store (who_of self.new.seat) self.new.waiting.items (node_of self.new.seat).parts.records }
-        ensures capacity { vec_capacity self.new.waiting ≡ vec_capacity self.old.waiting }
+        ensures store { self.new.noted.store ≡ self.old.noted.store }
+        ensures noted { IsAllNoted W.WriteStore self.new.noted (who_of self.new.seat) (node_of self.new.seat).parts.records }
+        ensures capacity { vec_capacity self.new.noted.waiting ≡ vec_capacity self.old.noted.waiting }
     {
         let place = place_of(self.seat.node(), asked);
         let acted = self.seat.obey(asked);
         let write = write_of(self.seat.node(), asked, &acted, place);
-        note(&mut self.waiting, write);
+        self.noted.note(write);
         acted
     }
 }

@@ -6,7 +6,7 @@ ghost use Rattle.node.specs.View.Standing.{Running};
 ghost use Rattle.seats.specs.Occupant.{Stands, who_of};
 
 use crate::seat::BatchedSeat;
-use crate::store::WriteStore;
+use kept_node::WriteStore;
 use node_lines::Ahead;
 use node_service::{BatchedEnd, Keeper, Lines, Outbox, serve_batched};
 use std::alloc::Global;
@@ -24,7 +24,7 @@ pub fn serve_batched_member<W: WriteStore, I: Lines + Ahead, O: Outbox>(
     requires kept { ⟦<BatchedSeat<W> as Keeper>⟧.has_kept seat.old }
     ensures { (view : View) → Stands seat.old.seat (Running view)
         → ServesBatchedAs W.WriteStore I.Lines O.Outbox (who_of seat.old.seat).members (who_of seat.old.seat).id (Running view) result
-        input.old output.old input.new output.new seat.new.store }
+        input.old output.old input.new output.new seat.new.noted.store }
 {
     serve_batched(alloc, seat, input, output)
 }

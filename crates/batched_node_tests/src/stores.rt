@@ -2,7 +2,7 @@
 
 use acceptor::RecordsFault;
 use ballots::NodeId;
-use batched_node::WriteStore;
+use kept_node::WriteStore;
 use node_writes::WriteBytes;
 use std::alloc::Global;
 

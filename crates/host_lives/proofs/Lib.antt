@@ -3,6 +3,10 @@ mod Happened
 mod Knowing
 mod Turned
 mod Released
+mod Begun
 mod Led
 mod Whole
+mod Once
+mod Batched
 mod Serving
+mod Starts

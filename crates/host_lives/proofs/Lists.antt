@@ -1,6 +1,6 @@
 -- Functions of numbers that differ at one, what stands where in two lists, and outputs by their numbers.
 use Rattle.std.proofs.Common.{◌≡◌, ◌≢◌, ◌⊎◌, inl, inr, ⊎_elim, ℕ, zero, suc, ◌+◌, false, cond, eqb, List, [], ◌∷◌, ◌++◌}
-use Rattle.std.proofs.Common.{length, drop, refl, sym, ap, subst, arith, Some, slice_get}
+use Rattle.std.proofs.Common.{length, drop, refl, sym, ap, subst, ◌∙◌, arith, Some, slice_get}
 use Rattle.std.proofs.lemmas.Bool.{eq-eqb}
 use Rattle.std.proofs.lemmas.Bool.Decides.{eqb_tells}
 use Rattle.ballots.specs.Voting.{IsIn}
@@ -19,6 +19,13 @@ at_each {X} P f k x here there j = ⊎_elim
     (λ no. subst (λ b. P j (cond b x (f j))) (sym no.0) (there j no.1))
     (eqb_tells j k)
 
+-- the same of two functions
+pub at_both : {X Y : Type 0} (P : ℕ → X → Y → Type 0) (f : ℕ → X) (g : ℕ → Y) (k : ℕ) (x : X) (y : Y) → P k x y → ((j : ℕ) → j ≢ k → P j (f j) (g j)) → (j : ℕ) → P j (with_at f k x j) (with_at g k y j)
+at_both {X} {Y} P f g k x y here there j = ⊎_elim
+    (λ yes. subst (λ b. P j (cond b x (f j)) (cond b y (g j))) (sym yes.0) (subst (λ (n : ℕ). P n x y) (sym yes.1) here))
+    (λ no. subst (λ b. P j (cond b x (f j)) (cond b y (g j))) (sym no.0) (there j no.1))
+    (eqb_tells j k)
+
 pub at_one : {X : Type 0} (f : ℕ → X) (k : ℕ) (x : X) → with_at f k x k ≡ x
 at_one f k x = ap (λ b. cond b x (f k)) (eq-eqb k k refl)
 
@@ -27,6 +34,13 @@ apart j k other = ⊎_elim (λ yes. absurd (other yes.1)) (λ no. no.0) (eqb_tel
 
 pub at_other : {X : Type 0} (f : ℕ → X) (k : ℕ) (x : X) (j : ℕ) → j ≢ k → with_at f k x j ≡ f j
 at_other f k x j other = ap (λ b. cond b x (f j)) (apart j k other)
+
+-- with what stood there nothing changes
+pub at_same : {X : Type 0} (f : ℕ → X) (k : ℕ) (x : X) → x ≡ f k → (j : ℕ) → with_at f k x j ≡ f j
+at_same {X} f k x same j = ⊎_elim
+    (λ yes. ap (λ b. cond b x (f j)) yes.0 ∙ same ∙ ap f (sym yes.1))
+    (λ no. ap (λ b. cond b x (f j)) no.0)
+    (eqb_tells j k)
 
 -- what stands in two lists stands in the first, or in the second behind it
 pub get_parts : {X : Type 0} (xs ys : List X) (i : ℕ) (x : X) → slice_get (xs ++ ys) i ≡ Some x → (slice_get xs i ≡ Some x) ⊎ ((j : ℕ) × (i ≡ length xs + j) × (slice_get ys j ≡ Some x))

@@ -6,6 +6,7 @@ use Rattle.std.proofs.Common.{refl, sym, ap, subst, ◌∙◌, arith, Some, slic
 use Rattle.std.proofs.lemmas.Bool.{eq-eqb, eqb-true}
 use Rattle.std.proofs.lemmas.List.Elements.{Contains-append_cases}
 use Rattle.std.proofs.lemmas.Option.{slice_get_within}
+use Rattle.acceptor.specs.Content.{Content}
 use Rattle.ballots.specs.declared.letters.Letter.{Letter}
 use Rattle.epochs.specs.Epochs.{AreFull, outputs_over}
 use Rattle.epoch_runs.specs.Runs.{IsOfRun}
@@ -21,7 +22,8 @@ use Rattle.map_release.specs.declared.numbered.Numbered.{Numbered}
 use Rattle.network_script.proofs.Callers.{along_joins, get_other, get_same}
 use Rattle.network_script.specs.Next.{Next}
 use Rattle.network_script.specs.World.{Written, opening as opening_world}
-use Rattle.node.specs.View.{Standing}
+use Rattle.node.specs.View.{Standing, started}
+use Rattle.node.specs.View.Standing.{Running}
 use Rattle.node_lines.specs.declared.request.Request.{Request}
 use Rattle.node_lines.specs.declared.request.Request.TheVariants as request
 use Rattle.node_service.specs.Seated.{asked_of}
@@ -46,12 +48,17 @@ pub record IsKnownState (members places : ℕ) (ws : ℕ → Written) (most : �
   pub knows : Knows members ws state.passed
   pub few : length state.passed + 1 ≤ most
 
--- the worlds of all epochs, whose nodes stand as hosts' nodes do, and had learned what the hosts know; no host is beyond
--- epoch number most, and these states were told
-pub record AreAt (members places : ℕ) (ws : ℕ → Written) (views : ℕ → HostView) (states : List (List ℕ)) (most : ℕ) : Type 0 where
+-- a host's nodes above its window stand as they began
+abbrev pub IsAbove : (ℕ → Content) → HostView → Type 0
+IsAbove contents v = (e : ℕ) → number v + 1 < e → v.nodes e ≡ Running (started (contents e))
+
+-- the worlds of all epochs, whose nodes stand as hosts' nodes do, which began over these contents, and had learned what
+-- the hosts know; no host is beyond epoch number most, and these states were told
+pub record AreAt (members places : ℕ) (ws : ℕ → Written) (contents : ℕ → ℕ → Content) (views : ℕ → HostView) (states : List (List ℕ)) (most : ℕ) : Type 0 where
   pub came : (e : ℕ) → IsOfRun members (ws e)
   pub nodes : (j : ℕ) → j < members → (e : ℕ) → slice_get (ws e).nodes j ≡ Some ((views j).nodes e)
   pub knows : (j : ℕ) → j < members → Knows members ws (known (views j))
+  pub above : (j : ℕ) → j < members → IsAbove (contents j) (views j)
   pub full : (j : ℕ) → j < members → AreFull places (views j).passed
   pub low : (j : ℕ) → j < members → number (views j) ≤ most
   pub told : (bytes : List ℕ) → Contains states bytes → IsKnownState members places ws most bytes
@@ -74,13 +81,25 @@ step_goes members e t w w' (inl (none, nothing, same)) = ([], [], same)
 step_goes members e t w w' (inr (done, happening, answer, is, next, letters)) = (happening ∷ [], answer ∷ [], (w', next, refl))
 
 -- what a turn does, by which its host comes to v'
-pub record IsTurned (members places : ℕ) (t : HostTurn) (ws : ℕ → Written) (views : ℕ → HostView) (states : List (List ℕ)) (most : ℕ) (v' : HostView) : Type 0 where
+pub record IsTurned (members places : ℕ) (t : HostTurn) (ws : ℕ → Written) (contents : ℕ → ℕ → Content) (views : ℕ → HostView) (states : List (List ℕ)) (most : ℕ) (v' : HostView) : Type 0 where
   pub worlds : ℕ → Written
   pub each : (e : ℕ) → IsStep members e t (ws e) (worlds e)
-  pub are : AreAt members places worlds (with_at views t.host v') (states ++ states_in t.reply) (most + 1)
+  pub are : AreAt members places worlds contents (with_at views t.host v') (states ++ states_in t.reply) (most + 1)
   pub printed : (x : Numbered) → Contains (outputs_in t.reply) x → IsOutputOf places (known v') x
   pub again : (o : Output) → Contains (again_in t.reply) o → Contains (outputs_over places (known v')) o
   pub whole : (e : ℕ) → is_done_in e t.reply ≡ true → (1 ≤ e) × (e ≤ number (views t.host) + 1)
+
+-- a world to which it goes is one of a run
+pub came_on : (members : ℕ) (w w' : Written) → GoesOn members w w' → IsOfRun members w → IsOfRun members w'
+came_on members w w' (script, report, goes) came = record {
+  script = came.script ++ script;
+  report = came.report ++ report;
+  run = along_joins (Next members) (opening_world members []) w w' came.script script came.report report came.run goes;
+}
+
+-- one event
+on_one : (members : ℕ) (w : Written) (happening : Event) (answer : Answer) (w' : Written) → Next members w happening answer w' → GoesOn members w w'
+on_one members w happening answer w' next = (happening ∷ [], answer ∷ [], (w', next, refl))
 
 -- no node was asked
 pub record IsQuiet (members places : ℕ) (t : HostTurn) (ws : ℕ → Written) (views : ℕ → HostView) (most : ℕ) (v' : HostView) : Type 0 where
@@ -89,14 +108,15 @@ pub record IsQuiet (members places : ℕ) (t : HostTurn) (ws : ℕ → Written) 
   pub nodes : (e : ℕ) → v'.nodes e ≡ (views t.host).nodes e
   pub knows : Knows members ws (known v')
   pub full : AreFull places v'.passed
+  pub further : number (views t.host) ≤ number v'
   pub low : number v' ≤ most + 1
   pub states : (bytes : List ℕ) → Contains (states_in t.reply) bytes → IsKnownState members places ws (most + 1) bytes
   pub printed : (x : Numbered) → Contains (outputs_in t.reply) x → IsOutputOf places (known v') x
   pub again : (o : Output) → Contains (again_in t.reply) o → Contains (outputs_over places (known v')) o
 
-pub quiet : (members places : ℕ) (t : HostTurn) (ws : ℕ → Written) (views : ℕ → HostView) (states : List (List ℕ)) (most : ℕ) (v' : HostView) → AreAt members places ws views states most
-    → IsQuiet members places t ws views most v' → IsTurned members places t ws views states most v'
-quiet members places t ws views states most v' are is = record {
+pub quiet : (members places : ℕ) (t : HostTurn) (ws : ℕ → Written) (contents : ℕ → ℕ → Content) (views : ℕ → HostView) (states : List (List ℕ)) (most : ℕ) (v' : HostView) → AreAt members places ws contents views states most
+    → IsQuiet members places t ws views most v' → IsTurned members places t ws contents views states most v'
+quiet members places t ws contents views states most v' are is = record {
   worlds = ws;
   each = λ e. inl (is.none e, is.nothing e, refl);
   are = record {
@@ -104,6 +124,8 @@ quiet members places t ws views states most v' are is = record {
     nodes = at_each (λ j u. j < members → (e : ℕ) → slice_get (ws e).nodes j ≡ Some (u.nodes e)) views t.host v'
         (λ within e. are.nodes t.host within e ∙ ap (λ (s : Standing). Some s) (sym (is.nodes e))) (λ j other. are.nodes j);
     knows = at_each (λ j u. j < members → Knows members ws (known u)) views t.host v' (λ within. is.knows) (λ j other. are.knows j);
+    above = at_each (λ j u. j < members → IsAbove (contents j) u) views t.host v'
+        (λ within e far. (let further = is.further in is.nodes e ∙ are.above t.host within e (omega (arith, far, further)))) (λ j other. are.above j);
     full = at_each (λ j u. j < members → AreFull places u.passed) views t.host v' (λ within. is.full) (λ j other. are.full j);
     low = at_each (λ j u. j < members → number u ≤ most + 1) views t.host v' (λ within. is.low) (λ j other within. (let low = are.low j within in omega (arith, low)));
     told = λ bytes has. ⊎_elim (λ before. known_state_on members places ws ws most (most + 1) bytes (λ e. ([], [], refl)) (omega arith) (are.told bytes before)) (λ here. is.states bytes here)
@@ -115,12 +137,12 @@ quiet members places t ws views states most v' are is = record {
 }
 
 -- a node was asked
-pub acted_turn : (members places : ℕ) (t : HostTurn) (ws : ℕ → Written) (views : ℕ → HostView) (states : List (List ℕ)) (most : ℕ) (n : EpochNumber) (rest : List ℕ) (asked : Request) (acted : Acted) (s : Standing)
-    → t.host < members → AreAt members places ws views states most → ((e : ℕ) (l : Letter) (came : Acted) → DoesIn t e (request.Letter l) came → (l.to ≡ t.host) × Contains (ws e).letters l)
+pub acted_turn : (members places : ℕ) (t : HostTurn) (ws : ℕ → Written) (contents : ℕ → ℕ → Content) (views : ℕ → HostView) (states : List (List ℕ)) (most : ℕ) (n : EpochNumber) (rest : List ℕ) (asked : Request) (acted : Acted) (s : Standing)
+    → t.host < members → AreAt members places ws contents views states most → ((e : ℕ) (l : Letter) (came : Acted) → DoesIn t e (request.Letter l) came → (l.to ≡ t.host) × Contains (ws e).letters l)
     → IsNumbered t.line n rest → IsAskedOfNode rest asked → t.reply ≡ InEpoch n (Of acted) → IsNear (views t.host) n.epoch
     → GoesTo members t.host ((views t.host).nodes n.epoch) (asked_of asked) (told acted) (letters_of acted) (outputs_of acted) (λ u. u ≡ s)
-    → IsTurned members places t ws views states most (with_node (views t.host) n.epoch s)
-acted_turn members places t ws views states most n rest asked acted s within are comes numbered asks replied near goes =
+    → IsTurned members places t ws contents views states most (with_node (views t.host) n.epoch s)
+acted_turn members places t ws contents views states most n rest asked acted s within are comes numbered asks replied near goes =
     let e0 : ℕ = n.epoch in
     let w : Written = ws e0 in
     let v : HostView = views t.host in
@@ -162,6 +184,8 @@ acted_turn members places t ws views states most n rest asked acted s within are
         knows = at_each (λ j u. j < members → Knows members (with_at ws e0 h.world) (known u)) views t.host v'
             (λ lt. knows_on members ws (with_at ws e0 h.world) (known v) on (are.knows t.host lt))
             (λ j other lt. knows_on members ws (with_at ws e0 h.world) (known (views j)) on (are.knows j lt));
+        above = at_each (λ j u. j < members → IsAbove (contents j) u) views t.host v'
+            (λ lt e far. at_other v.nodes e0 s e (λ is. (let high = near.high in omega (arith, far, high, is))) ∙ are.above t.host lt e far) (λ j other. are.above j);
         full = at_each (λ j u. j < members → AreFull places u.passed) views t.host v' (λ lt. are.full t.host lt) (λ j other. are.full j);
         low = at_each (λ j u. j < members → number u ≤ most + 1) views t.host v'
             (λ lt. (let low = are.low t.host lt in omega (arith, low))) (λ j other lt. (let low = are.low j lt in omega (arith, low)));
@@ -176,13 +200,3 @@ acted_turn members places t ws views states most n rest asked acted s within are
   where
     none_in : {X : Type 0} (x : X) → Contains [] x → ⊥
     none_in x (k, lt, is) = omega (arith, lt)
-
-    on_one : (members : ℕ) (w : Written) (happening : Event) (answer : Answer) (w' : Written) → Next members w happening answer w' → GoesOn members w w'
-    on_one members w happening answer w' next = (happening ∷ [], answer ∷ [], (w', next, refl))
-
-    came_on : (members : ℕ) (w w' : Written) → GoesOn members w w' → IsOfRun members w → IsOfRun members w'
-    came_on members w w' (script, report, goes) came = record {
-      script = came.script ++ script;
-      report = came.report ++ report;
-      run = along_joins (Next members) (opening_world members []) w w' came.script script came.report report came.run goes;
-    }

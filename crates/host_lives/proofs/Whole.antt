@@ -3,7 +3,7 @@ use Rattle.std.proofs.Common.{◌≡◌, ℕ, ◌+◌, ◌<◌, ◌≤◌, List,
 use Rattle.std.proofs.Common.{Some, slice_get, Contains}
 use Rattle.std.proofs.lemmas.List.{get_or-replicate, length-replicate}
 use Rattle.std.proofs.lemmas.Option.{slice_get-get_or}
-use Rattle.acceptor.specs.Content.{no_content}
+use Rattle.acceptor.specs.Content.{Content, no_content}
 use Rattle.epochs.specs.Epochs.{outputs_over}
 use Rattle.epoch_runs.specs.Runs.{EpochsFollowOneLog, FollowOneLog}
 use Rattle.flow_state.proofs.Callers.{at_contains, contains_at}
@@ -15,8 +15,9 @@ use Rattle.map_release.specs.declared.numbered.Numbered.{Numbered}
 use Rattle.network_script.specs.World.{Written, opening as opening_world}
 use Rattle.node.specs.View.{Standing, started}
 use Rattle.node.specs.View.Standing.{Running}
-use Rattle.host_lives.specs.Turns.{outputs_printed}
-use Rattle.host_lives.specs.Lives.{HostsAreOneLog, IsOutputOf, IsRunOf, new_host}
+use Rattle.host_lives.specs.Beginning.{new_host, nothing}
+use Rattle.host_lives.specs.Turns.{HostTurn, outputs_printed, replied}
+use Rattle.host_lives.specs.Lives.{HostsAreOneLog, IsOutputOf, IsRunOf}
 use Rattle.host_lives.proofs.Knowing.{knows_none, knows_push, world_at, worlds_are, worlds_count, worlds_know}
 use Rattle.host_lives.proofs.Knowing.{worlds_of}
 use Rattle.host_lives.proofs.Led.{AreTurned, all_turned}
@@ -29,15 +30,19 @@ opening_worlds members = λ e. opening_world members []
 abbrev new_hosts : ℕ → HostView
 new_hosts = λ k. new_host
 
+abbrev new_contents : ℕ → ℕ → Content
+new_contents = λ k. nothing
+
 -- a node of one of these has done nothing
 new_at : (members k : ℕ) (s : Standing) → k < members → slice_get (replicate members s) k ≡ Some s
 new_at members k s within = slice_get-get_or (replicate members s) k s (omega (arith, within, length-replicate members s)) ∙ ap (λ (x : Standing). Some x) (get_or-replicate members k s s within)
 
-are_new : (members places : ℕ) → AreAt members places (opening_worlds members) new_hosts [] 1
+are_new : (members places : ℕ) → AreAt members places (opening_worlds members) new_contents new_hosts [] 1
 are_new members places = record {
   came = λ e. record { script = []; report = []; run = refl };
   nodes = λ j within e. new_at members j (Running (started no_content)) within;
   knows = λ j within. knows_push members (opening_worlds members) [] [] (λ e c is. absurd (cc (is))) (knows_none members (opening_worlds members));
+  above = λ j within e far. refl;
   full = λ j within. tt;
   low = λ j within. omega arith;
   told = λ bytes has. absurd (let at = contains_at [] bytes has in cc (at.1));
@@ -60,10 +65,11 @@ one_map members places ws cs log x y (i, place, at) (j, place', at') ch m start 
     omega (arith, place, place', same)
 
 pub hosts_are_one : EpochsFollowOneLog → HostsAreOneLog
-hosts_are_one follow members places turns lived =
-    let done : AreTurned members places turns (opening_worlds members) 1 =
-    all_turned members places turns (opening_worlds members) new_hosts [] 1 lived.named lived.lived lived.come lived.told (are_new members places) in
-    let n : ℕ = 1 + length turns in
+hosts_are_one follow members places happened lived =
+    let turns : List HostTurn = replied happened in
+    let done : AreTurned members places happened (opening_worlds members) 1 =
+    all_turned members places happened (opening_worlds members) new_contents new_hosts [] 1 lived.named lived.lived lived.come lived.told lived.given (are_new members places) in
+    let n : ℕ = 1 + length happened in
     let ws : List Written = worlds_of n 1 done.worlds in
     let log = follow members places ws (worlds_are members n 1 done.worlds (λ e. let ran = done.each e in record { script = ran.script; report = ran.report; run = ran.goes })) in
     let printed : (x : Numbered) → Contains (outputs_printed turns) x → IsOutputOf places log.0 x =
@@ -76,7 +82,7 @@ hosts_are_one follow members places turns lived =
       record {
         runs = λ i w at.
             let ran = done.each (i + 1) in
-            subst (λ (x : Written). IsRunOf members (i + 1) turns x) (sym (world_at n 1 done.worlds i w at))
+            subst (λ (x : Written). IsRunOf members (i + 1) happened x) (sym (world_at n 1 done.worlds i w at))
             (record { script = ran.script; report = ran.report; events = ran.events; run = ran.goes; letters = ran.letters });
         whole = λ t e has is. let all = done.whole t e has is in (all.0, subst (λ (m : ℕ). e ≤ m) (sym (worlds_count n 1 done.worlds)) all.1);
         log = log.1;

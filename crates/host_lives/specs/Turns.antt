@@ -1,6 +1,6 @@
--- Lines that hosts read, with their replies, in one order.
-use Rattle.std.specs.Prelude.{◌≡◌, ℕ, ◌==◌, Bool, false, if◌then◌else◌, List, [], ◌∷◌}
-use Rattle.std.specs.Prelude.{map, filter, take, Some, slice_get}
+-- What happened at hosts, in one order: lines that they read, with their replies, and beginnings over what they left.
+use Rattle.std.specs.Prelude.{◌≡◌, ℕ, ◌==◌, Bool, true, false, if◌then◌else◌, List, [], ◌∷◌}
+use Rattle.std.specs.Prelude.{map, filter, take, Option, Some, slice_get}
 use Rattle.std.specs.Prelude.{Contains}
 use Rattle.std.specs.List.{flat_map}
 use Rattle.ballots.specs.declared.letters.Letter.{Letter}
@@ -98,3 +98,39 @@ abbrev pub AllTold : List HostTurn → Type 0
 AllTold turns =
     (i : ℕ) (t : HostTurn) → slice_get turns i ≡ Some t → (bytes : List ℕ) (epoch : ℕ) → Gives t.line bytes → t.reply ≡ Joined epoch
     → Contains (states_told (take i turns)) bytes
+
+-- what happened at a host: it replied to a line; or its process ended or was killed, and began again over what it left,
+-- behind a state that it was given, if any
+pub data HostEvent : Type 0 where
+  Replied : HostTurn → HostEvent
+  Began : (host : ℕ) → (given : Option (List ℕ)) → HostEvent
+
+-- the host
+abbrev pub host_of : HostEvent → ℕ
+host_of (Replied t) = t.host
+host_of (Began k given) = k
+
+-- what happened at host k, in order
+abbrev pub events_of : ℕ → List HostEvent → List HostEvent
+events_of k happened = filter (λ h. host_of h == k) happened
+
+-- the lines that were replied to, in order
+abbrev pub replied : List HostEvent → List HostTurn
+replied [] = []
+replied (Replied t ∷ happened) = t ∷ replied happened
+replied (Began k given ∷ happened) = replied happened
+
+-- it happened to a node of epoch e: that did what it was asked, or it began again, as each node of a host does that
+-- begins again
+abbrev pub is_in : ℕ → HostEvent → Bool
+is_in e (Replied t) = is_done_in e t.reply
+is_in e (Began k given) = true
+
+-- all that happened to nodes of epoch e, in order
+abbrev pub events_in : ℕ → List HostEvent → List HostEvent
+events_in e happened = filter (is_in e) happened
+
+-- each state behind which a host began again was told before, by a host
+abbrev pub AllGiven : List HostEvent → Type 0
+AllGiven happened =
+    (i k : ℕ) (bytes : List ℕ) → slice_get happened i ≡ Some (Began k (Some bytes)) → Contains (states_told (replied (take i happened))) bytes

@@ -1,5 +1,7 @@
 mod Digits
+mod Apart
 mod Behind
 mod Longest
 mod Runs
 mod Ends
+mod Awaited

@@ -1,5 +1,5 @@
 -- What a line without a number asks of a host.
-use Rattle.std.specs.Prelude.{◌≡◌, ◌≢◌, ◌⊎◌, ℕ, List, ◌++◌, Ok, IsErr, codes}
+use Rattle.std.specs.Prelude.{◌≡◌, ◌≢◌, ◌⊎◌, ◌&&◌, ℕ, nat_le, not, Bool, true, List, [], ◌∷◌, ◌++◌, Ok, IsErr, codes}
 use Rattle.hex.specs.Hex.{decode_of}
 use Rattle.node_lines.specs.Lines.{Asks, BeginsOther, IsRefused, release_word}
 use Rattle.node_lines.specs.declared.fault.LineFault.{LineFault}
@@ -17,6 +17,11 @@ state_word = codes "state"
 
 abbrev pub again_word : List ℕ
 again_word = codes "again"
+
+-- a line begins with no digit: it is done apart, once all before it is kept
+abbrev pub is_apart : List ℕ → Bool
+is_apart [] = true
+is_apart (byte ∷ rest) = not (nat_le 48 byte && nat_le byte 57)
 
 -- a line asks this: to release, as of a node; for its state; to go to a state, by its bytes' digits; or for what it tells
 -- again

@@ -4,3 +4,4 @@ pub mod Texts
 pub mod Replying
 pub mod Serving
 pub mod Longest
+pub mod Waiting

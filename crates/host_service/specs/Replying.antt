@@ -5,14 +5,16 @@ use Rattle.std.specs.declared.alloc.AllocError.{AllocError}
 use Rattle.std.specs.declared.alloc.Global.{Global}
 use Rattle.grant_machine.specs.declared.output.Output.{Output}
 use Rattle.hosts.specs.Acting.{ActsIn, IsAskedIn, IsRefusedSo}
-use Rattle.hosts.specs.Hosts.{AreMembers, IsHonest, KeepsTrust, SameHost, StandsAs, are_up, member_of, places_of}
-use Rattle.hosts.specs.Hosts.{number_of}
+use Rattle.hosts.specs.Hosts.{AreMembers, IsHonest, KeepsTrust, SameHost, StandsAs, are_up, begins_of, member_of}
+use Rattle.hosts.specs.Hosts.{number_of, places_of}
 use Rattle.hosts.specs.Joining.{Joins, JoinsAs, StaysFor}
+use Rattle.hosts.specs.Keeping.{FailsToKeep, HaveKept}
 use Rattle.hosts.specs.States.{IsStateOf}
 use Rattle.hosts.specs.Views.{HostView, MovesIn, Releases, TellsAgain}
 use Rattle.hosts.specs.declared.acted.Given.{Given}
 use Rattle.hosts.specs.declared.acted.Given.TheVariants.{Outputs, Failed}
 use Rattle.hosts.specs.declared.acted.HostActed.{HostActed}
+use Rattle.hosts.specs.declared.acted.HostActed.TheVariants.{Of}
 use Rattle.hosts.specs.declared.fault.JoinFault.{JoinFault}
 use Rattle.hosts.specs.declared.fault.JoinFault.TheVariants as cant_join
 use Rattle.hosts.specs.declared.host.Host.{Host}
@@ -30,14 +32,14 @@ use Rattle.proposer.specs.declared.fault.NodeFault.{NodeFault}
 use Rattle.proposer.specs.declared.fault.NodeFault.TheVariants.{OutOfMemory}
 use Rattle.seats.specs.Moves.{Ask}
 use Rattle.seats.specs.declared.acted.Acted.TheVariants as came
-use Rattle.host_service.specs.Asking.{AsksHost, AsksNoHost}
+use Rattle.host_service.specs.Asking.{AsksHost, AsksNoHost, is_apart}
 use Rattle.host_service.specs.Numbers.{HasNoNumber, IsNumbered}
 use Rattle.host_service.specs.declared.asked.HostRequest.{HostRequest}
 use Rattle.host_service.specs.declared.asked.HostRequest.TheVariants as ask
 use Rattle.host_service.specs.declared.number.EpochNumber.{EpochNumber}
 use Rattle.host_service.specs.declared.reply.HostReply.{HostReply}
-use Rattle.host_service.specs.declared.reply.HostReply.TheVariants.{There, InEpoch, Released, State, StateTooLong}
-use Rattle.host_service.specs.declared.reply.HostReply.TheVariants.{Joined, NoState, Again, AsNode}
+use Rattle.host_service.specs.declared.reply.HostReply.TheVariants.{There, Begins, InEpoch, Released, State}
+use Rattle.host_service.specs.declared.reply.HostReply.TheVariants.{StateTooLong, Joined, NoState, Again, AsNode}
 use Rattle.host_service.specs.declared.reply.TheConstants.{LONGEST_STATE}
 use Rattle.host_service.specs.declared.service.HostServer.{HostServer}
 
@@ -81,7 +83,7 @@ pub record ReleasesSo {O N : Type 0} {g : Ghosts O N} {h : Nodes N} (old : Host 
   pub same : SameHost old new
   pub members : AreMembers old → AreMembers new
   pub trust : KeepsTrust old new
-  pub moves : IsHonest new → (v : HostView) → StandsAs old v → (v' : HostView) × Releases g.may_fail (places_of old) v now given v' × StandsAs new v'
+  pub moves : IsHonest new → (v : HostView) → StandsAs old v → (v' : HostView) × Releases (begins_of old) g.may_fail (places_of old) v now given v' × StandsAs new v'
 
 -- and so was the state at the start of its own epoch, which came
 pub record StatesSo {O N : Type 0} {g : Ghosts O N} {h : Nodes N} (host : Host O N g h) (state : Result (Vec ℕ Global) AllocError) : Type 0 where
@@ -100,6 +102,24 @@ pub record JoinsSo {O N : Type 0} {g : Ghosts O N} {h : Nodes N} (old : Host O N
 -- it was asked what modems need that begin anew
 pub record AgainSo {O N : Type 0} {g : Ghosts O N} {h : Nodes N} (host : Host O N g h) (outputs : Result (Vec Output Global) AllocError) : Type 0 where
   pub is : (v : HostView) → StandsAs host v → IfOk outputs (λ outputs. TellsAgain (places_of host) v outputs.items)
+
+-- a commit kept all that it did, and did nothing else
+pub record CommitsSo {O N : Type 0} {g : Ghosts O N} {h : Nodes N} (old new : Host O N g h) : Type 0 where
+  pub same : SameHost old new
+  pub members : AreMembers old → AreMembers new
+  pub trust : KeepsTrust old new
+  pub stands : (v : HostView) → StandsAs old v → StandsAs new v
+
+-- the reply that tells of a commit of an epoch's node that it failed
+abbrev pub unkept_reply : EpochNumber → NodeFault → HostReply
+unkept_reply number why = InEpoch number (Of (came.Fault why))
+
+-- a commit failed so of the node of an epoch, which is told under the number of that epoch
+pub record FailsSo {O N : Type 0} {g : Ghosts O N} {h : Nodes N} (old : Host O N g h) (replied : HostReply) (new : Host O N g h) : Type 0 where
+  pub epoch : ℕ
+  pub why : NodeFault
+  pub fails : FailsToKeep old epoch why new
+  pub told : replied ≡ unkept_reply (record { epoch = epoch; places = places_of old }) why
 
 -- the reply that tells a fault
 abbrev pub fault_reply : NodeFault → HostReply
@@ -140,6 +160,7 @@ pub record ActsAsAsked {O N : Type 0} {g : Ghosts O N} {h : Nodes N} (old : Host
 -- it asks nothing
 abbrev pub RepliesIn : {O N : Type 0} {g : Ghosts O N} {h : Nodes N} → Host O N g h → EpochNumber → List ℕ → HostReply → Host O N g h → Type 0
 RepliesIn old n rest (There id members places) new = ⊥
+RepliesIn old n rest (Begins id members places begins) new = ⊥
 RepliesIn old n rest (InEpoch m acted) new = (m ≡ n) × ((IsRefusedSo old n.epoch n.places acted × (new ≡ old)) ⊎ ActsAsAsked old n rest acted new)
 RepliesIn old n rest (Released told next place) new = ⊥
 RepliesIn old n rest (State bytes) new = ⊥
@@ -163,10 +184,11 @@ DoesAsked old ask.State replied new = (state : Result (Vec ℕ Global) AllocErro
 DoesAsked old (ask.Join bytes) replied new = DoesJoin old bytes replied new
 DoesAsked old ask.Again replied new = (outputs : Result (Vec Output Global) AllocError) × AgainSo old outputs × (replied ≡ again_reply outputs) × (new ≡ old)
 
--- the reply to a line without a number: what came of what it asks, or why it asks nothing
+-- the reply to a line without a number: what came of what it asks, once all that was done before was kept; or why it asks
+-- nothing
 abbrev pub RepliesAlone : {O N : Type 0} {g : Ghosts O N} {h : Nodes N} → Host O N g h → List ℕ → HostReply → Host O N g h → Type 0
 RepliesAlone old line replied new =
-    ((asked : HostRequest) × AsksHost line asked × DoesAsked old asked replied new)
+    ((asked : HostRequest) × AsksHost line asked × HaveKept old × DoesAsked old asked replied new)
     ⊎ ((why : LineFault) × AsksNoHost line why × (replied ≡ AsNode (reply.Refused why)) × (new ≡ old))
 
 -- the reply to a line, or to one that was let go for this fault
@@ -175,14 +197,16 @@ RepliesTo old (Ok line) replied new =
     ((n : EpochNumber) × (rest : List ℕ) × IsNumbered line n rest × RepliesIn old n rest replied new) ⊎ (HasNoNumber line × RepliesAlone old line replied new)
 RepliesTo old (Err why) replied new = (replied ≡ AsNode (reply.Refused why)) × (new ≡ old)
 
--- a host as what replies to lines: nothing that it did waits for a commit
+-- a host as what replies to lines: its nodes keep what they did by commits, and what is asked of the host itself is done
+-- apart
 abbrev pub host_keeper : {O N : Type 0} {g : Ghosts O N} {h : Nodes N} → Keepers (HostServer O N g h) HostReply
 host_keeper = record {
   up = λ server. are_up (host_of server);
   replies = λ old came replied new. RepliesTo (host_of old) came replied (host_of new);
   has_noted = λ server. Unit {0};
+  is_apart = is_apart;
   has_room = λ server. Unit {0};
-  has_kept = λ server. Unit {0};
-  commits = λ old new. new ≡ old;
-  fails = λ old told new. ⊥;
+  has_kept = λ server. HaveKept (host_of server);
+  commits = λ old new. CommitsSo (host_of old) (host_of new);
+  fails = λ old told new. FailsSo (host_of old) told (host_of new);
 }

@@ -15,8 +15,10 @@ use Rattle.seats.specs.Acted.{letters_of, told}
 use Rattle.seats.specs.declared.acted.Acted.{Acted as Came}
 use Rattle.host_service.specs.Numbers.{number_text}
 use Rattle.host_service.specs.declared.number.EpochNumber.{EpochNumber}
+use Rattle.host_service.specs.declared.reply.Beginning.{Beginning}
+use Rattle.host_service.specs.declared.reply.Beginning.TheVariants.{Fresh, Restarted, Waits}
 use Rattle.host_service.specs.declared.reply.HostReply.{HostReply}
-use Rattle.host_service.specs.declared.reply.HostReply.TheVariants.{There, InEpoch, Released, State, StateTooLong}
+use Rattle.host_service.specs.declared.reply.HostReply.TheVariants.{There, Begins, InEpoch, Released, State, StateTooLong}
 use Rattle.host_service.specs.declared.reply.HostReply.TheVariants.{Joined, NoState, Again, AsNode}
 
 -- the line of a letter with the number before it
@@ -50,6 +52,21 @@ next_text n place = codes "next " ++ (decimal n.epoch ++ (codes "/" ++ (decimal 
 abbrev pub there_text : ℕ → Members → ℕ → List ℕ
 there_text id members places = codes "host " ++ (decimal id ++ (codes " of " ++ (decimal (member_count members) ++ (codes " places " ++ (decimal places ++ codes "\n")))))
 
+-- that of one over files: who it is, and how it begins
+abbrev pub who_text : ℕ → Members → ℕ → List ℕ
+who_text id members places = codes "host " ++ (decimal id ++ (codes " of " ++ (decimal (member_count members) ++ (codes " places " ++ decimal places))))
+
+abbrev pub restarted_text : ℕ → List ℕ → List ℕ
+restarted_text epoch digest = codes " restarted " ++ (decimal epoch ++ (codes " " ++ (encode_lower digest ++ 10 ∷ [])))
+
+abbrev pub beginning_text : Beginning → List ℕ
+beginning_text Fresh = codes " fresh\n"
+beginning_text (Restarted epoch digest) = restarted_text epoch digest
+beginning_text Waits = codes " waits\n"
+
+abbrev pub begins_text : ℕ → Members → ℕ → Beginning → List ℕ
+begins_text id members places begins = who_text id members places ++ beginning_text begins
+
 -- a state, by its bytes' digits
 abbrev pub state_text : List ℕ → List ℕ
 state_text bytes = codes "state " ++ (encode_lower bytes ++ 10 ∷ [])
@@ -82,6 +99,7 @@ again_text os = again_head (length os) ++ output_lines os
 -- what is told at one time
 abbrev pub host_text : HostReply → List ℕ
 host_text (There id members places) = there_text id members places
+host_text (Begins id members places begins) = begins_text id members places begins
 host_text (InEpoch n acted) = in_epoch_text n acted
 host_text (Released told next place) = reply_text told ++ next_text next place
 host_text (State bytes) = state_text bytes

@@ -2,7 +2,7 @@
 
 ghost use Rattle.std.specs.Prelude.{◌≡◌, ◌≤◌, false, MatchOption, MatchResult, drop, vec_len};
 ghost use Rattle.node_lines.specs.Lines.{Asks};
-ghost use Rattle.host_service.specs.Asking.{AsksHost, AsksNoHost};
+ghost use Rattle.host_service.specs.Asking.{AsksHost, AsksNoHost, is_apart};
 ghost use Rattle.host_service.specs.Replying.{IsAskedOfNode, IsNoRelease, IsNotAskedOfNode, is_release};
 
 use ballots::Bytes;
@@ -20,6 +20,16 @@ pub enum HostRequest {
     Join(Bytes),
     /// What modems need that begin anew.
     Again,
+}
+
+/// Whether a line begins with no digit, as each line does that asks a host, and none that has a number.
+pub(crate) fn is_apart(line: &[u8]) -> bool
+    ensures { result ≡ is_apart line.now }
+{
+    match line.first() {
+        Some(byte) => !byte.is_ascii_digit(),
+        None => true,
+    }
 }
 
 /// What is behind a place of the line, in the line's memory.

@@ -2,6 +2,8 @@
 
 ghost use Rattle.std.specs.Prelude.{◌≡◌};
 ghost use Rattle.host_service.specs.Replying.{again_reply, fault_reply, join_reply, reply_of, state_reply};
+ghost use Rattle.host_service.specs.Replying.{unkept_reply};
+ghost use Rattle.host_service.specs.Waiting.{no_start_reply};
 
 use crate::number::EpochNumber;
 use ballots::{Bytes, Members, NodeId};
@@ -15,11 +17,24 @@ use std::alloc::AllocError;
 /// The most bytes of a state that is told: a line that joins by it is no longer than a line of a node may be.
 pub const LONGEST_STATE: usize = 88_000_000;
 
+/// How a host over files begins.
+#[derive(Drop)]
+pub enum Beginning {
+    /// It begins anew.
+    Fresh,
+    /// It goes on at the start of this epoch, by the state with this digest: the bytes of the state's sum.
+    Restarted(u64, Bytes),
+    /// It waits for a state to begin by.
+    Waits,
+}
+
 /// What is told at one time: the reply to a line, or before the first one who replies.
 #[derive(Drop)]
 pub enum HostReply {
     /// This host of so many is there, with so many places in an epoch.
     There(NodeId, Members, u64),
+    /// The same of one over files, and how it begins.
+    Begins(NodeId, Members, u64, Beginning),
     /// What came of what the node of an epoch was asked, under the number that the line had.
     InEpoch(EpochNumber, HostActed),
     /// The outputs of a release, as a node tells them; the host's own epoch, and the first place of it that it lacks.
@@ -43,6 +58,16 @@ fn fault_reply(fault: NodeFault) -> HostReply
     ensures { result ≡ fault_reply fault }
 {
     HostReply::AsNode(Reply::Acted(Acted::Fault(fault)))
+}
+
+/// The reply that tells of a commit of an epoch's node that it failed.
+pub(crate) fn unkept_reply(epoch: u64, places: u64, fault: NodeFault) -> HostReply
+    ensures { result ≡ unkept_reply (record { epoch = epoch; places = places }) fault }
+{
+    HostReply::InEpoch(
+        EpochNumber { epoch, places },
+        HostActed::Of(Acted::Fault(fault)),
+    )
 }
 
 /// The reply to a release of a host with so many places in an epoch.
@@ -87,6 +112,16 @@ pub(crate) fn join_reply(epoch: u64, joined: Result<(), JoinFault>) -> HostReply
         Ok(()) => HostReply::Joined(epoch),
         Err(JoinFault::NoState) => HostReply::NoState,
         Err(JoinFault::Node(fault)) => fault_reply(fault),
+    }
+}
+
+/// The reply of a host that waits to a state that is no start.
+pub(crate) fn no_start_reply(why: JoinFault) -> HostReply
+    ensures { result ≡ no_start_reply why }
+{
+    match why {
+        JoinFault::NoState => HostReply::NoState,
+        JoinFault::Node(fault) => fault_reply(fault),
     }
 }
 

@@ -1,18 +1,20 @@
 //! A host over lines.
 
-ghost use Rattle.std.specs.Prelude.{◌≡◌, Ok, vec_len};
+ghost use Rattle.std.specs.Prelude.{◌≡◌, Ok, true, vec_len};
 ghost use Rattle.hosts.specs.Hosts.{AreMembers, StandsAs, are_up};
+ghost use Rattle.hosts.specs.Keeping.{HaveKept};
 ghost use Rattle.hosts.specs.Views.{HostView};
 ghost use Rattle.node_service.specs.Batched.{EndsBatchedBy};
 ghost use Rattle.node_service.specs.Seated.{asked_of};
-ghost use Rattle.host_service.specs.Replying.{ActsSo, DoesAsked, DoesJoin, DoesRelease, RepliesAlone, RepliesIn};
-ghost use Rattle.host_service.specs.Replying.{RepliesTo, host_keeper, host_of};
-ghost use Rattle.host_service.specs.Serving.{NeverLies, ServesFrom};
+ghost use Rattle.host_service.specs.Asking.{is_apart};
+ghost use Rattle.host_service.specs.Replying.{ActsSo, CommitsSo, DoesAsked, DoesJoin, DoesRelease, FailsSo};
+ghost use Rattle.host_service.specs.Replying.{RepliesAlone, RepliesIn, RepliesTo, host_keeper, host_of};
+ghost use Rattle.host_service.specs.Serving.{IfAllTold, NeverLies, ServesFrom};
 ghost use Rattle.host_service.specs.Texts.{host_text};
 
-use crate::asked::{HostRequest, asked_of_host, asked_of_node, rest_of};
+use crate::asked::{HostRequest, asked_of_host, asked_of_node, is_apart, rest_of};
 use crate::number::{EpochNumber, number_before};
-use crate::reply::{HostReply, again_reply, join_reply, reply_of, state_reply};
+use crate::reply::{HostReply, again_reply, join_reply, reply_of, state_reply, unkept_reply};
 use ballots::Bytes;
 use hosts::{Host, HostActed, Opens};
 use node_lines::{Ahead, LineFault, Request};
@@ -20,7 +22,7 @@ use node_service::{BatchedEnd, Keeper, Lines, Outbox, Reply, serve_batched};
 use seats::Asked;
 use std::alloc::Global;
 
-/// A host that replies to lines. Its records are in its nodes, so that nothing that it did waits for a commit.
+/// A host that replies to lines, and keeps what its nodes did by commits.
 #[derive(Drop)]
 pub struct HostServer<O: Opens> {
     host: Host<O>,
@@ -88,6 +90,7 @@ fn reply_of_host<O: Opens>(host: &mut Host<O>, asked: HostRequest) -> HostReply
 
 /// The reply to a line without a number.
 fn reply_alone<O: Opens>(alloc: Global, host: &mut Host<O>, line: Vec<u8>) -> HostReply
+    requires { is_apart line.items ≡ true → HaveKept host.old }
     ensures { RepliesAlone host.old line.items result host.new }
 {
     match asked_of_host(alloc, line) {
@@ -97,6 +100,7 @@ fn reply_alone<O: Opens>(alloc: Global, host: &mut Host<O>, line: Vec<u8>) -> Ho
 }
 
 fn reply_to_line<O: Opens>(alloc: Global, host: &mut Host<O>, line: Vec<u8>) -> HostReply
+    requires { is_apart line.items ≡ true → HaveKept host.old }
     ensures { RepliesTo host.old (Ok line.items) result host.new }
 {
     match number_before(&line) {
@@ -129,16 +133,22 @@ impl<O: Opens> Keeper for HostServer<O> {
 
     ghost has_noted = { λ server. Unit {0} };
 
+    ghost is_apart = { is_apart };
+
     ghost has_room = { λ server. Unit {0} };
 
-    ghost has_kept = { λ server. Unit {0} };
+    ghost has_kept = { λ server. HaveKept (host_of server) };
 
-    ghost commits = { λ old new. new ≡ old };
+    ghost commits = { λ old new. CommitsSo (host_of old) (host_of new) };
 
-    ghost fails = { λ old told new. ⊥ };
+    ghost fails = { λ old told new. FailsSo (host_of old) told (host_of new) };
 
     fn can_act(&self) -> bool {
         self.host.is_up()
+    }
+
+    fn is_apart(&self, line: &Bytes) -> bool {
+        is_apart(line.as_slice())
     }
 
     fn reply_to(&mut self, alloc: Global, line: Result<Bytes, LineFault>) -> HostReply {
@@ -149,27 +159,33 @@ impl<O: Opens> Keeper for HostServer<O> {
     }
 
     fn waits(&self) -> bool {
-        false
+        self.host.waits()
     }
 
     fn is_full(&self) -> bool {
-        false
+        self.host.is_full()
     }
 
     fn commit(&mut self) -> Result<(), HostReply> {
-        Ok(())
+        match self.host.keep() {
+            Ok(()) => Ok(()),
+            Err((epoch, fault)) => Err(unkept_reply(epoch, self.host.places(), fault)),
+        }
     }
 }
 
-/// A host replies to each line that comes, until there are no more or one of its nodes is down. Replies to lines that
-/// have come together go out together.
+/// A host replies to each line that comes, until there are no more or one of its nodes is down. What lines that have
+/// come together did is kept together, and only then the replies go out. What is asked of the host itself is done once
+/// all before it is kept and replied to.
 pub fn serve_host<P: Opens, I: Lines + Ahead, O: Outbox>(
     alloc: Global,
     server: &mut HostServer<P>,
     input: &mut I,
     output: &mut O,
 ) -> BatchedEnd
+    requires { HaveKept (host_of server.old) }
     ensures ends { EndsBatchedBy host_keeper host_text I.Lines O.Outbox result server.old input.old output.old server.new input.new output.new }
+    ensures kept { IfAllTold result (HaveKept (host_of server.new)) }
     ensures views { NeverLies (host_of server.old) → AreMembers (host_of server.old) → (v : HostView) → StandsAs (host_of server.old) v
         → ServesFrom I.Lines O.Outbox (host_of server.old) v result input.old output.old input.new output.new }
 {

@@ -6,12 +6,13 @@ ghost use Rattle.node_service.specs.Texts.{head_text, reply_text};
 ghost use Rattle.seats.specs.Acted.{letters_of};
 ghost use Rattle.host_service.specs.Numbers.{number_text};
 ghost use Rattle.host_service.specs.Texts.{acted_text_in, ended_text, host_text, in_epoch_text, next_text};
-ghost use Rattle.host_service.specs.Texts.{again_head, again_text, joined_text, numbered_letter, numbered_letters};
-ghost use Rattle.host_service.specs.Texts.{no_state_text, output_line, output_lines, state_text, there_text};
-ghost use Rattle.host_service.specs.Texts.{too_long_text};
+ghost use Rattle.host_service.specs.Texts.{again_head, again_text, beginning_text, begins_text, joined_text};
+ghost use Rattle.host_service.specs.Texts.{no_state_text, numbered_letter, numbered_letters, output_line};
+ghost use Rattle.host_service.specs.Texts.{output_lines, restarted_text, state_text, there_text, too_long_text};
+ghost use Rattle.host_service.specs.Texts.{who_text};
 
 use crate::number::EpochNumber;
-use crate::reply::HostReply;
+use crate::reply::{Beginning, HostReply};
 use ballots::{Letter, Members, NodeId};
 use grant_machine::Output;
 use hosts::HostActed;
@@ -162,6 +163,65 @@ fn write_there<W: Write>(
     Ok(())
 }
 
+fn write_who<W: Write>(
+    id: NodeId,
+    members: Members,
+    places: u64,
+    output: &mut W,
+) -> Result<(), Unwritten>
+    ensures { OnOk result (Appends (W.contents output.old) (W.contents output.new) (who_text id members places)) }
+{
+    let count = members.count();
+    write!(output, "host {} of {count} places {places}", id.number())?;
+    Ok(())
+}
+
+fn write_restarted<W: Write>(
+    alloc: Global,
+    epoch: u64,
+    digest: &[u8],
+    output: &mut W,
+) -> Result<(), Unwritten>
+    ensures { OnOk result (Appends (W.contents output.old) (W.contents output.new) (restarted_text epoch digest.now)) }
+{
+    let Ok(digits) = hex::encode(alloc, digest) else {
+        return Err(Unwritten::OutOfMemory);
+    };
+    writeln!(output, " restarted {epoch} {digits}")?;
+    Ok(())
+}
+
+fn write_beginning<W: Write>(
+    alloc: Global,
+    begins: &Beginning,
+    output: &mut W,
+) -> Result<(), Unwritten>
+    ensures { OnOk result (Appends (W.contents output.old) (W.contents output.new) (beginning_text begins.now)) }
+{
+    match begins {
+        Beginning::Fresh => writeln!(output, " fresh")?,
+        Beginning::Restarted(epoch, digest) => {
+            return write_restarted(alloc, *epoch, digest.as_slice(), output);
+        }
+        Beginning::Waits => writeln!(output, " waits")?,
+    }
+    Ok(())
+}
+
+/// Who a host over files is, and how it begins.
+fn write_begins<W: Write>(
+    alloc: Global,
+    who: (NodeId, Members, u64),
+    begins: &Beginning,
+    output: &mut W,
+) -> Result<(), Unwritten>
+    ensures { OnOk result (Appends (W.contents output.old) (W.contents output.new) (begins_text who.0 who.1 who.2 begins.now)) }
+{
+    let (id, members, places) = who;
+    write_who(id, members, places, output)?;
+    write_beginning(alloc, begins, output)
+}
+
 /// A state's bytes, in digits.
 fn write_state<W: Write>(alloc: Global, state: &[u8], output: &mut W) -> Result<(), Unwritten>
     ensures { OnOk result (Appends (W.contents output.old) (W.contents output.new) (state_text state.now)) }
@@ -237,6 +297,9 @@ fn write_text<W: Write>(alloc: Global, reply: &HostReply, output: &mut W) -> Res
 {
     match reply {
         HostReply::There(id, members, places) => write_there(*id, *members, *places, output),
+        HostReply::Begins(id, members, places, begins) => {
+            write_begins(alloc, (*id, *members, *places), begins, output)
+        }
         HostReply::InEpoch(number, acted) => write_in_epoch(alloc, *number, acted, output),
         HostReply::Released(told, next, place) => {
             write_released(alloc, told, *next, *place, output)

@@ -2,8 +2,7 @@
 use Rattle.std.proofs.Common.{◌≡◌, ◌≢◌, ◌∙◌, ℕ, ◌+◌, ◌<◌, Bool, true, false, cond, eqb, Option, Some, refl, sym}
 use Rattle.std.proofs.Common.{ap, subst, inl, inr, eqb-true, eq-eqb, arith}
 use Rattle.std.specs.Prelude.{is_some}
-use Rattle.node.specs.View.{Standing, started}
-use Rattle.node.specs.View.Standing.{Running}
+use Rattle.node.specs.View.{Standing}
 use Rattle.seats.specs.Acted.{letters_of, outputs_of, told}
 use Rattle.seats.specs.Acts.{GoesTo}
 use Rattle.seats.specs.Moves.{Ask}
@@ -22,6 +21,7 @@ use Rattle.hosts.specs.declared.host.Host.{Host}
 use Rattle.hosts.specs.declared.opens.Opens.{Ghosts}
 use Rattle.node.specs.declared.node.Node.{Ghosts as Nodes}
 use Rattle.hosts.proofs.KeptStates.{same_states}
+use Rattle.hosts.proofs.Openings.{keeps_same}
 use Rattle.hosts.proofs.Windows.{above_first, is_gone}
 use Rattle.hosts.proofs.SlotLemmas.{eqb_no, same_inside, slot_cases}
 
@@ -98,7 +98,9 @@ node_members {O} {N} {g} {h} old new e ask acted acts members =
     (λ is. seat_member (places_of old) acts.before ask acted acts.after acts.acts ∙ is ∙ sym same) (λ f seat differ is. is ∙ sym same) members
 
 node_same : {O N : Type 0} {g : Ghosts O N} {h : Nodes N} (old new : Host O N g h) (e : ℕ) (ask : Ask) (acted : HostActed) → NodeActs old e ask acted new → SameHost old new
-node_same {O} {N} {g} {h} old new e ask acted acts = record { member = ap g.member acts.rest.opens; places = acts.rest.places }
+node_same {O} {N} {g} {h} old new e ask acted acts =
+    let keeps = keeps_same g old.opens new.opens acts.rest.opens in
+    record { member = keeps.member; places = acts.rest.places; begins = keeps.begins }
 
 stays_trust : {O N : Type 0} {g : Ghosts O N} {h : Nodes N} (old new : Host O N g h) → new ≡ old → KeepsTrust old new
 stays_trust {O} {N} {g} {h} old new same = subst (λ (x : Host O N g h). KeepsTrust old x) (sym same) (record { honest = λ t e seat low. t e seat; clean = λ t e seat low. t e seat; sure = λ c t. t })
@@ -107,7 +109,7 @@ stays_members : {O N : Type 0} {g : Ghosts O N} {h : Nodes N} (old new : Host O 
 stays_members {O} {N} {g} {h} old new same members = subst (λ (x : Host O N g h). AreMembers x) (sym same) members
 
 stays_same : {O N : Type 0} {g : Ghosts O N} {h : Nodes N} (old new : Host O N g h) → new ≡ old → SameHost old new
-stays_same {O} {N} {g} {h} old new same = subst (λ (x : Host O N g h). SameHost old x) (sym same) (record { member = refl; places = refl })
+stays_same {O} {N} {g} {h} old new same = subst (λ (x : Host O N g h). SameHost old x) (sym same) (record { member = refl; places = refl; begins = λ e c b. b })
 
 pub acts_trust : {O N : Type 0} {g : Ghosts O N} {h : Nodes N} (old new : Host O N g h) (e said : ℕ) (ask : Ask) (acted : HostActed) → ActsIn old e said ask acted new → KeepsTrust old new
 acts_trust old new e said ask (Of acted) (is, acts) = node_trust old new e ask (Of acted) acts
@@ -166,9 +168,6 @@ stands_on {O} {N} {g} {h} old new e ask acted acts v stands t after = record {
       (λ was. subst (λ (s : Standing). Stands acts.after s) (sym (ap (λ b. cond b t (v.nodes e)) (eq-eqb e e refl))) after)
       (λ f seat differ is. subst (λ (s : Standing). Stands seat s) (sym (ap (λ b. cond b t (v.nodes f)) (eqb_no f e differ))) is)
       stands.nodes;
-  above = λ f far.
-      ap (λ b. cond b t (v.nodes f)) (eqb_no f e (λ same. omega (arith, same, far, (is_near old v stands e acts.before acts.was).high)))
-      ∙ stands.above f far ∙ ap (λ (o : O). Running (started (g.begins o f))) (sym acts.rest.opens);
   some = stands.some;
   since = stands.since;
   before = acts.rest.before ∙ stands.before;
@@ -185,7 +184,6 @@ ended {O} {N} {g} {h} old new e ask acts v stands = record {
   scheduler = acts.rest.scheduler ∙ stands.scheduler ∙ ap (λ p. scheduled (values p v) v.cursor) (sym acts.rest.places);
   nodes = over_nodes old new e ask Ended (λ f seat. Stands seat (v.nodes f)) (λ f seat. Stands seat (v.nodes f)) acts
       (λ was. subst (λ (x : Seat N h). Stands x (v.nodes e)) (sym acts.acts.1) was) (λ f seat differ is. is) stands.nodes;
-  above = λ f far. stands.above f far ∙ ap (λ (o : O). Running (started (g.begins o f))) (sym acts.rest.opens);
   some = stands.some;
   since = stands.since;
   before = acts.rest.before ∙ stands.before;

@@ -4,25 +4,26 @@ use Rattle.std.proofs.Common.{refl, sym, ap, subst, inl, inr, eqb-true, eq-eqb, 
 use Rattle.std.specs.Prelude.{is_some}
 use Rattle.std.proofs.lemmas.Bool.{false_from_ne_true, leb-true}
 use Rattle.node.specs.declared.node.Node.{Ghosts as Nodes}
-use Rattle.seats.specs.Occupant.{node_of}
 use Rattle.seats.specs.declared.seat.Seat.{Seat}
 use Rattle.hosts.specs.Hosts.{has_before, seat_of}
-use Rattle.hosts.specs.Joining.{Enters, EntersAs, EntersOver, IsOpened, IsOpenedFor, IsOpenedIn}
-use Rattle.hosts.specs.Opening.{IsOpenedAt, KeepsBeginnings}
+use Rattle.hosts.specs.Joining.{Enters, EntersAs, EntersOver, IsOpenedFor, IsOpenedIn}
+use Rattle.hosts.specs.Opened.{IsOpened}
+use Rattle.hosts.specs.Opening.{KeepsBeginnings}
 use Rattle.hosts.specs.Shifting.{Stays}
 use Rattle.hosts.specs.Slots.{slot}
 use Rattle.hosts.specs.declared.entering.Opened.{Opened}
 use Rattle.hosts.specs.declared.host.Host.{Host}
 use Rattle.hosts.specs.declared.opens.Opens.{Ghosts}
+use Rattle.hosts.proofs.Openings.{keeps_then}
 use Rattle.hosts.proofs.SlotLemmas.{far_each, far_kept, next_each, next_kept, same_inside}
 
 -- what is opened of an epoch and a seat that are these
-opened_as : {O N : Type 0} {g : Ghosts O N} {h : Nodes N} (host : Host O N g h) (e f : ℕ) (x y : Seat N h) → e ≡ f → x ≡ y → IsOpened host e x → IsOpened host f y
-opened_as {O} {N} {g} {h} host e f x y number same is = subst (λ (s : Seat N h). IsOpened host f s) same (subst (λ n. IsOpened host n x) number is)
+opened_as : {O N : Type 0} {h : Nodes N} (g : Ghosts O N) (opens : O) (e f : ℕ) (x y : Seat N h) → e ≡ f → x ≡ y → IsOpened g opens e x → IsOpened g opens f y
+opened_as {O} {N} {h} g opens e f x y number same is = subst (λ (s : Seat N h). IsOpened g opens f s) same (subst (λ n. IsOpened g opens n x) number is)
 
 -- of the next epoch only the node of the one after is opened
 enters_next : {O N : Type 0} {g : Ghosts O N} {h : Nodes N} (old new : Host O N g h) (epoch : ℕ) (last : Seat N h) → KeepsBeginnings g.member g.begins old.opens new.opens → new.number ≡ epoch
-    → epoch ≡ old.number + 1 → IsOpened old (epoch + 1) last → new.before ≡ Some old.own → new.own ≡ old.after → new.after ≡ last → Enters old new epoch
+    → epoch ≡ old.number + 1 → IsOpened g old.opens (epoch + 1) last → new.before ≡ Some old.own → new.own ≡ old.after → new.after ≡ last → Enters old new epoch
 enters_next {O} {N} {g} {h} old new epoch last keeps number is opened before own after = record {
   keeps = keeps;
   number = number;
@@ -30,7 +31,7 @@ enters_next {O} {N} {g} {h} old new epoch last keeps number is opened before own
   kept = λ e seat high at. seats e ∙ next_kept old.number old.before old.own old.after last e seat (omega (arith, high, is)) at;
   each = λ e seat at. elim (next_each old.number old.before old.own old.after last e seat (sym (seats e) ∙ at)) [
     | inl there ↦ inl there
-    | inr found ↦ inr (omega (arith, found.0), opened_as old (epoch + 1) e last seat (omega (arith, is, found.0)) found.1 opened)
+    | inr found ↦ inr (omega (arith, found.0), omega (arith, found.0, is), opened_as g old.opens (epoch + 1) e last seat (omega (arith, is, found.0)) found.1 opened)
   ];
 }
   where
@@ -39,7 +40,7 @@ enters_next {O} {N} {g} {h} old new epoch last keeps number is opened before own
 
 -- of one further above both are
 enters_far : {O N : Type 0} {g : Ghosts O N} {h : Nodes N} (old new : Host O N g h) (epoch : ℕ) (seat last : Seat N h) → KeepsBeginnings g.member g.begins old.opens new.opens → new.number ≡ epoch
-    → old.number + 1 < epoch → IsOpened old epoch seat → IsOpened old (epoch + 1) last → new.before ≡ cond (eqb (epoch - old.number) 2) (Some old.after) None → new.own ≡ seat → new.after ≡ last
+    → old.number + 1 < epoch → IsOpened g old.opens epoch seat → IsOpened g old.opens (epoch + 1) last → new.before ≡ cond (eqb (epoch - old.number) 2) (Some old.after) None → new.own ≡ seat → new.after ≡ last
     → Enters old new epoch
 enters_far {O} {N} {g} {h} old new epoch first last keeps number far opened opened_last before own after = record {
   keeps = keeps;
@@ -48,8 +49,8 @@ enters_far {O} {N} {g} {h} old new epoch first last keeps number far opened open
   kept = λ e seat high at. seats e ∙ far_kept old.number epoch old.before old.own old.after new.before first last e seat far stays high at;
   each = λ e seat at. elim (far_each old.number epoch old.before old.own old.after new.before first last e seat far was (sym (seats e) ∙ at)) [
     | inl there ↦ inl there
-    | inr (inl found) ↦ inr (omega (arith, found.0, far), opened_as old epoch e first seat (sym found.0) found.1 opened)
-    | inr (inr found) ↦ inr (omega (arith, found.0, far), opened_as old (epoch + 1) e last seat (sym found.0) found.1 opened_last)
+    | inr (inl found) ↦ inr (omega (arith, found.0, far), omega (arith, found.0), opened_as g old.opens epoch e first seat (sym found.0) found.1 opened)
+    | inr (inr found) ↦ inr (omega (arith, found.0, far), omega (arith, found.0), opened_as g old.opens (epoch + 1) e last seat (sym found.0) found.1 opened_last)
   ];
 }
   where
@@ -83,31 +84,15 @@ enters_far {O} {N} {g} {h} old new epoch first last keeps number far opened open
         cc (wrong)))
 
 -- behind the step that opened what was lacking
-pub enters : {O N : Type 0} {g : Ghosts O N} {h : Nodes N} (old mid new : Host O N g h) (epoch : ℕ) (opened : Opened N h) → Stays old mid → new.opens ≡ mid.opens → new.number ≡ epoch
+pub enters : {O N : Type 0} {g : Ghosts O N} {h : Nodes N} (old mid new : Host O N g h) (epoch : ℕ) (opened : Opened N h) → Stays old mid → KeepsBeginnings g.member g.begins mid.opens new.opens → new.number ≡ epoch
     → IsOpenedFor old epoch opened → EntersAs (epoch - mid.number) mid.own mid.after opened new.before new.own new.after → Enters old new epoch
 enters {O} {N} {g} {h} old mid new epoch opened stays opens number are over = by opened.own are.own over.0
   where
     keeps : KeepsBeginnings g.member g.begins old.opens new.opens
-    keeps = record { member = ap g.member opens ∙ stays.keeps.member; begins = ap g.begins opens ∙ stays.keeps.begins }
+    keeps = keeps_then g old.opens mid.opens new.opens stays.keeps opens
 
     by : (o : Option (Seat N h)) → IsOpenedIn old epoch o → EntersOver (epoch - mid.number) mid.own mid.after o new.before new.own → Enters old new epoch
     by None is (before, own) = enters_next old new epoch opened.after keeps number is are.after (before ∙ ap (λ (x : Seat N h). Some x) stays.own) (own ∙ stays.after) over.1
     by (Some seat) is (before, own) =
         enters_far old new epoch seat opened.after keeps number is.0 is.1 are.after
         (before ∙ (λ i. cond (eqb (epoch - stays.number i) 2) (Some (stays.after i)) None)) own over.1
-
--- what is opened for one that opens nodes alike, in the same epoch
-pub opened_for_same : {O N : Type 0} {g : Ghosts O N} {h : Nodes N} (host other : Host O N g h) (e : ℕ) (opened : Opened N h) → other.opens ≡ host.opens → other.number ≡ host.number
-    → IsOpenedFor host e opened → IsOpenedFor other e opened
-opened_for_same {O} {N} {g} {h} host other e opened opens number are = record { own = by opened.own are.own; after = same (e + 1) opened.after are.after }
-  where
-    same : (f : ℕ) (seat : Seat N h) → IsOpened host f seat → IsOpened other f seat
-    same f seat is = record {
-      up = is.up;
-      opened = subst (λ (o : O). IsOpenedAt h.who h.honest h.stands (g.member o) (g.begins o f) (node_of seat)) (sym opens) is.opened;
-      sure = is.sure;
-    }
-
-    by : (o : Option (Seat N h)) → IsOpenedIn host e o → IsOpenedIn other e o
-    by None is = is ∙ ap (λ n. n + 1) (sym number)
-    by (Some seat) (far, is) = (subst (λ n. n + 1 < e) (sym number) far, same e seat is)

@@ -10,14 +10,13 @@ use Rattle.command_log.specs.Values.{outputs_of_values}
 use Rattle.epochs.specs.Again.{again_of}
 use Rattle.std.proofs.lemmas.List.{append-nil, take_all}
 use Rattle.map_release.specs.Released.{has_ended}
-use Rattle.node.specs.View.{started}
-use Rattle.node.specs.View.Standing.{Running}
 use Rattle.seats.specs.Occupant.{Stands}
 use Rattle.seats.specs.declared.seat.Seat.{Seat}
 use Rattle.epochs.specs.Epochs.{AreFull, ValuesGoOn, values_of}
 use Rattle.epochs.specs.Scheduling.{AppliesNext, HandsOutRest, SchedulerView, applied_to, scheduled}
 use Rattle.epochs.specs.Scheduling.{tables_after}
 use Rattle.hosts.specs.Hosts.{AreMembers, IsClean, IsHonest, KeepsTrust, SameHost, StandsAs, places_of, seat_of}
+use Rattle.hosts.specs.Keeping.{HaveKept}
 use Rattle.hosts.specs.Shifting.{GivesOut, KeepsNodes, KeepsStates, SaysNext, TakesOwn}
 use Rattle.hosts.specs.Slots.{slot}
 use Rattle.hosts.specs.States.{AreStates, StatesView}
@@ -29,6 +28,7 @@ use Rattle.hosts.specs.declared.acted.Given.TheVariants.{Outputs, Failed}
 use Rattle.hosts.specs.declared.host.Host.{Host}
 use Rattle.hosts.specs.declared.opens.Opens.{Ghosts}
 use Rattle.node.specs.declared.node.Node.{Ghosts as Nodes}
+use Rattle.hosts.proofs.Openings.{keeps_same as same_opens}
 use Rattle.hosts.proofs.KeptStates.{made_state, more_states, next_states, same_states}
 use Rattle.hosts.proofs.SlotLemmas.{slot_own}
 
@@ -54,7 +54,12 @@ pub keeps_members : {O N : Type 0} {g : Ghosts O N} {h : Nodes N} (old new : Hos
 keeps_members {O} {N} {g} {h} old new keeps members e seat at = members e seat (sym (same_seats old new keeps e) ∙ at) ∙ ap g.member (sym keeps.opens)
 
 pub keeps_same : {O N : Type 0} {g : Ghosts O N} {h : Nodes N} (old new : Host O N g h) → KeepsNodes old new → SameHost old new
-keeps_same {O} {N} {g} {h} old new keeps = record { member = ap g.member keeps.opens; places = keeps.places }
+keeps_same {O} {N} {g} {h} old new keeps =
+    let begins = same_opens g old.opens new.opens keeps.opens in
+    record { member = begins.member; places = keeps.places; begins = begins.begins }
+
+pub keeps_kept : {O N : Type 0} {g : Ghosts O N} {h : Nodes N} (old new : Host O N g h) → KeepsNodes old new → HaveKept old → HaveKept new
+keeps_kept {O} {N} {g} {h} old new keeps kept e seat at = kept e seat (sym (same_seats old new keeps e) ∙ at)
 
 -- values that are applied one after another are all applied
 applied_all : AppliesNext → (front more : List (List ℕ)) (cursor : ℕ) → cursor ≤ length front → fold applied_to (scheduled front cursor) more ≡ scheduled (front ++ more) cursor
@@ -136,7 +141,6 @@ takes_stands {O} {N} {g} {h} next on old new takes v stands =
       full = subst (λ p. AreFull p v.passed) (sym keeps.places) stands.full;
       scheduler = took_scheduler next on old new takes v stands ∙ ap (λ p. scheduled (values p (with_more v more)) v.cursor) (sym keeps.places);
       nodes = λ e seat at. stands.nodes e seat (sym (same_seats old new keeps e) ∙ at);
-      above = λ e far. stands.above e far ∙ ap (λ (o : O). Running (started (g.begins o e))) (sym keeps.opens);
       some = stands.some;
       since = stands.since;
       before = ap (λ (x : Option (Seat N h)). is_some x) keeps.before ∙ stands.before;
@@ -169,7 +173,6 @@ gives_stands {O} {N} {g} {h} rest old now given new gives v stands =
       scheduler = gives.scheduler ∙ ap (λ (s : SchedulerView). record s { waiting = [] }) stands.scheduler ∙ rest (values old.places v) v.cursor
           ∙ ap (λ p. scheduled (values p v) (length (values old.places v))) (sym keeps.places);
       nodes = λ e seat at. stands.nodes e seat (sym (same_seats old new keeps e) ∙ at);
-      above = λ e far. stands.above e far ∙ ap (λ (o : O). Running (started (g.begins o e))) (sym keeps.opens);
       some = stands.some;
       since = stands.since;
       before = ap (λ (x : Option (Seat N h)). is_some x) keeps.before ∙ stands.before;

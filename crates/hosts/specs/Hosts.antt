@@ -1,9 +1,7 @@
 -- What is seen of a host.
-use Rattle.std.specs.Prelude.{◌≡◌, ℕ, ◌+◌, ◌<◌, ◌≤◌, Bool, true, ◌&&◌, length, Option, Some, None}
+use Rattle.std.specs.Prelude.{◌≡◌, ℕ, ◌+◌, ◌≤◌, Bool, true, ◌&&◌, length, Option, Some, None}
 use Rattle.std.specs.Prelude.{is_some, nat_lt}
 use Rattle.acceptor.specs.Content.{Content}
-use Rattle.node.specs.View.{started}
-use Rattle.node.specs.View.Standing.{Running}
 use Rattle.seats.specs.Occupant.{IsClean as IsSeatClean, IsHonest as IsSeatHonest, Stands, is_up}
 use Rattle.seats.specs.Occupant.{member as member_of_seat}
 use Rattle.seats.specs.declared.seat.Seat.{Seat}
@@ -45,8 +43,8 @@ has_before host = is_some host.before
 abbrev pub member_of : {O N : Type 0} {g : Ghosts O N} {h : Nodes N} → Host O N g h → ℕ × ℕ
 member_of {O} {N} {g} {h} host = g.member host.opens
 
--- what the records of its nodes hold as they are opened
-abbrev pub begins_of : {O N : Type 0} {g : Ghosts O N} {h : Nodes N} → Host O N g h → ℕ → Content
+-- what the records of an epoch's node may hold where it is opened
+abbrev pub begins_of : {O N : Type 0} {g : Ghosts O N} {h : Nodes N} → Host O N g h → ℕ → Content → Type 0
 begins_of {O} {N} {g} {h} host = g.begins host.opens
 
 -- the records of its nodes have returned what they committed
@@ -57,16 +55,18 @@ IsHonest {O} {N} {g} {h} host = (e : ℕ) (seat : Seat N h) → seat_of host e �
 abbrev pub IsClean : {O N : Type 0} {g : Ghosts O N} {h : Nodes N} → Host O N g h → Type 0
 IsClean {O} {N} {g} {h} host = (e : ℕ) (seat : Seat N h) → seat_of host e ≡ Some seat → IsSeatClean seat
 
--- of the nodes that it still has, honesty and cleanness aren't regained, and while nothing fails silently honesty isn't lost
+-- of the nodes that it still has, honesty and cleanness aren't regained, and while nothing fails silently honesty isn't
+-- lost
 pub record KeepsTrust {O N : Type 0} {g : Ghosts O N} {h : Nodes N} (old new : Host O N g h) : Type 0 where
   pub honest : IsHonest new → (e : ℕ) (seat : Seat N h) → number_of new ≤ e + 1 → seat_of old e ≡ Some seat → IsSeatHonest seat
   pub clean : IsClean new → (e : ℕ) (seat : Seat N h) → number_of new ≤ e + 1 → seat_of old e ≡ Some seat → IsSeatClean seat
   pub sure : IsClean new → IsHonest old → IsHonest new
 
--- it is the same member, with as many places
+-- it is the same member, with as many places, and its nodes begin over nothing over which they didn't before
 pub record SameHost {O N : Type 0} {g : Ghosts O N} {h : Nodes N} (old new : Host O N g h) : Type 0 where
   pub member : member_of new ≡ member_of old
   pub places : places_of new ≡ places_of old
+  pub begins : (e : ℕ) (c : Content) → begins_of new e c → begins_of old e c
 
 -- each of its nodes is this member of as many
 abbrev pub AreMembers : {O N : Type 0} {g : Ghosts O N} {h : Nodes N} → Host O N g h → Type 0
@@ -80,7 +80,6 @@ pub record StandsAs {O N : Type 0} {g : Ghosts O N} {h : Nodes N} (host : Host O
   pub full : AreFull host.places v.passed
   pub scheduler : host.scheduler ≡ scheduled (values host.places v) v.cursor
   pub nodes : (e : ℕ) (seat : Seat N h) → seat_of host e ≡ Some seat → Stands seat (v.nodes e)
-  pub above : (e : ℕ) → number v + 1 < e → v.nodes e ≡ Running (started (begins_of host e))
   pub some : 1 ≤ v.first
   pub since : v.first ≤ number v
   pub before : has_before host ≡ nat_lt v.first (number v)

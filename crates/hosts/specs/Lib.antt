@@ -1,4 +1,5 @@
 pub mod Opening
+pub mod Opened
 pub mod New
 pub mod Views
 pub mod Slots
@@ -10,3 +11,5 @@ pub mod Acting
 pub mod Shifting
 pub mod Unread
 pub mod Joining
+pub mod Keeping
+pub mod Starting

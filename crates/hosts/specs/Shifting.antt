@@ -1,11 +1,14 @@
 -- What a host does as it releases: it goes on, takes up, and gives.
-use Rattle.std.specs.Prelude.{◌≡◌, ◌⊎◌, ℕ, ◌+◌, ◌<◌, not, true, filter, List, [], Some, IsTrue, is_some}
+use Rattle.std.specs.Prelude.{◌≡◌, ◌⊎◌, ℕ, ◌+◌, ◌<◌, not, filter, List, [], ◌∷◌, Some, IsTrue, is_some}
 use Rattle.map_release.specs.Released.{has_ended}
-use Rattle.seats.specs.Occupant.{IsClean, IsHonest, node_of, is_up}
+use Rattle.seats.specs.declared.seat.Seat.{Seat}
 use Rattle.epochs.specs.Scheduling.{most_applied}
-use Rattle.hosts.specs.Opening.{IsOpenedAt, KeepsBeginnings}
-use Rattle.hosts.specs.States.{IsMade, gone_on}
+use Rattle.hosts.specs.Hosts.{StandsAs, member_of, number_of, places_of}
+use Rattle.hosts.specs.Opened.{IsOpened}
+use Rattle.hosts.specs.Opening.{KeepsBeginnings, KeepsState}
+use Rattle.hosts.specs.States.{IsMade, IsStateOf, gone_on}
 use Rattle.hosts.specs.Taking.{TakesFrom}
+use Rattle.hosts.specs.Views.{HostView, known}
 use Rattle.hosts.specs.declared.acted.Given.{Given}
 use Rattle.hosts.specs.declared.acted.Given.TheVariants.{Outputs, Failed}
 use Rattle.hosts.specs.declared.host.Host.{Host}
@@ -27,7 +30,7 @@ pub record KeepsNodes {O N : Type 0} {g : Ghosts O N} {h : Nodes N} (old new : H
   pub own : new.own ≡ old.own
   pub after : new.after ≡ old.after
 
--- nothing changed but what opens nodes, which kept what they begin over
+-- nothing changed but what opens nodes: these begin over nothing over which they didn't before
 pub record Stays {O N : Type 0} {g : Ghosts O N} {h : Nodes N} (old new : Host O N g h) : Type 0 where
   pub keeps : KeepsBeginnings g.member g.begins old.opens new.opens
   pub places : new.places ≡ old.places
@@ -40,7 +43,17 @@ pub record Stays {O N : Type 0} {g : Ghosts O N} {h : Nodes N} (old new : Host O
   pub own : new.own ≡ old.own
   pub after : new.after ≡ old.after
 
--- its nodes are those of the next three epochs, of which the last was opened, and it took up nothing of its own one
+-- the node behind the next epoch was opened, and then the state at the start of that kept
+pub record OpensNext {O N : Type 0} {g : Ghosts O N} {h : Nodes N} (old : Host O N g h) (seat : Seat N h) (new : Host O N g h) : Type 0 where
+  pub opened : IsOpened g old.opens (old.number + 2) seat
+  pub bytes : List ℕ
+  pub is : old.states.next ≡ Some bytes
+  pub behind : O
+  pub opens : g.opens_node old.opens (old.number + 2) behind
+  pub keeps : g.keeps_state behind (old.number + 1) bytes new.opens
+
+-- its nodes are those of the next three epochs, of which the last was opened, and it took up nothing of its own one.
+-- The state at the start of that was kept once the last was opened
 pub record Shifts {O N : Type 0} {g : Ghosts O N} {h : Nodes N} (old new : Host O N g h) : Type 0 where
   pub keeps : KeepsBeginnings g.member g.begins old.opens new.opens
   pub places : new.places ≡ old.places
@@ -49,11 +62,19 @@ pub record Shifts {O N : Type 0} {g : Ghosts O N} {h : Nodes N} (old new : Host 
   pub cursor : new.cursor ≡ old.cursor
   pub scheduler : new.scheduler ≡ old.scheduler
   pub states : (new.states ≡ gone_on old.states) × IsTrue (is_some old.states.next)
+  pub state : (bytes : List ℕ) × (old.states.next ≡ Some bytes)
+      × KeepsState g.opens_node g.keeps_state g.lets_go ((old.number + 2) ∷ []) (old.number + 1) bytes old.opens new.opens
   pub before : new.before ≡ Some old.own
   pub own : new.own ≡ old.after
-  pub up : is_up new.after ≡ true
-  pub opened : IsOpenedAt h.who h.honest h.stands (g.member old.opens) (g.begins old.opens (old.number + 2)) (node_of new.after)
-  pub sure : IsClean new.after → IsHonest new.after
+  pub opened : IsOpened g old.opens (old.number + 2) new.after
+
+-- the node behind the next epoch was opened, then the state at the start of that one kept, behind all values up to there,
+-- and last what isn't needed then let go
+abbrev pub StoresNext : {O N : Type 0} {g : Ghosts O N} {h : Nodes N} → Host O N g h → Host O N g h → Type 0
+StoresNext {O} {N} {g} {h} old new =
+    (bytes : List ℕ)
+    × KeepsState g.opens_node g.keeps_state g.lets_go ((number_of old + 2) ∷ []) (number_of old + 1) bytes old.opens new.opens
+    × ((v : HostView) → StandsAs old v → IsStateOf (member_of old).0 (member_of old).1 (places_of old) (known v) bytes)
 
 -- it goes on where it can, and else stays as it is
 abbrev pub GoesOn : {O N : Type 0} {g : Ghosts O N} {h : Nodes N} → Host O N g h → Host O N g h → Type 0

@@ -1,6 +1,7 @@
 //! A host.
 
-ghost use Rattle.std.specs.Prelude.{◌≡◌, ◌+◌, ◌<◌, ◌≤◌, IsTrue, is_some};
+ghost use Rattle.std.specs.Prelude.{◌≡◌, ◌↔◌, ◌+◌, ◌<◌, ◌≤◌, IsTrue, is_some};
+ghost use Rattle.hosts.specs.New.{ArePlaces};
 ghost use Rattle.epochs.specs.Scheduling.{most_applied};
 
 use crate::acted::{Given, HostActed};
@@ -8,8 +9,10 @@ use crate::beyond::{act_within, is_up_if_any};
 use crate::entering::{Opened, enter};
 use crate::fault::{HostFault, JoinFault, unread};
 use crate::opens::Opens;
+use crate::starting::is_of_hosts;
 use crate::states::States;
 use crate::taking::take_up;
+use crate::window::{Window, open_seat, open_window};
 use epochs::{Scheduler, epochs_join, schedulers_follow_values, told_again};
 use grant_machine::{Machine, Output};
 use host_states::{StateHead, framed, one_spelling_of_states};
@@ -26,17 +29,17 @@ pub const MOST_EPOCH_PLACES: u64 = 999_000;
 /// and one scheduler, which takes the first places of each epoch, as many in each.
 #[derive(Drop)]
 pub struct Host<O: Opens> {
-    alloc: Global,
-    opens: O,
-    places: u64,
-    number: u64,
-    taken: u64,
-    cursor: u64,
-    scheduler: Scheduler,
-    states: States,
-    before: Option<Seat<O::Node>>,
-    own: Seat<O::Node>,
-    after: Seat<O::Node>,
+    pub(crate) alloc: Global,
+    pub(crate) opens: O,
+    pub(crate) places: u64,
+    pub(crate) number: u64,
+    pub(crate) taken: u64,
+    pub(crate) cursor: u64,
+    pub(crate) scheduler: Scheduler,
+    pub(crate) states: States,
+    pub(crate) before: Option<Seat<O::Node>>,
+    pub(crate) own: Seat<O::Node>,
+    pub(crate) after: Seat<O::Node>,
     ghost some: { 1 ≤ places },
     ghost first: { 1 ≤ number },
     ghost window: { IsTrue (is_some before) → 1 < number },
@@ -49,22 +52,34 @@ pub struct Host<O: Opens> {
     ghost ready: { taken ≡ places → cursor ≡ scheduler.applied → IsTrue (is_some states.next) },
 }
 
+/// Whether an epoch may have so many places that count.
+pub(crate) fn are_places(places: u64) -> bool
+    ensures { IsTrue result ↔ ArePlaces places }
+{
+    1 <= places && places <= MOST_EPOCH_PLACES
+}
+
 impl<O: Opens> Host<O> {
-    ghost use Rattle.std.specs.Prelude.{◌≡◌, ◌≤◌, ◌<◌, ◌↔◌, ◌+◌, ◌-◌, ◌^◌, ◌⊎◌, ℕ, true, IfErr, IfOk, IsTrue};
+    ghost use Rattle.std.specs.Prelude.{◌≡◌, ◌≢◌, None, ◌≤◌, ◌<◌, ◌↔◌, ◌+◌, ◌-◌, ◌^◌, ◌⊎◌, ℕ, true, IfErr, IfOk, IsTrue};
     ghost use Rattle.std.specs.Prelude.{MatchOption, MatchResult};
     ghost use Rattle.std.specs.Prelude.{OnErr, OnOk};
     ghost use Rattle.seats.specs.Acted.{ask_of};
     ghost use Rattle.hosts.specs.Acting.{ActsIn, IsAskedIn, IsRefusedSo, NodeActs};
-    ghost use Rattle.hosts.specs.Joining.{Begins, CanJoin, IsOpenedFor, Joins, JoinsAs, StaysFor};
-    ghost use Rattle.hosts.specs.New.{ArePlaces, IsNoHost};
-    ghost use Rattle.hosts.specs.Shifting.{CanGoOn, GivesOut, GoesOn, IsReady, Prepares, Shifts, Stays};
+    ghost use Rattle.hosts.specs.Joining.{Begins, CanJoin, IsOpenedFor, IsReadyFor, Joins, JoinsAs, StaysFor, lacked};
+    ghost use Rattle.hosts.specs.Keeping.{HaveKept};
+    ghost use Rattle.hosts.specs.New.{IsNoHost};
+    ghost use Rattle.hosts.specs.Opening.{KeepsBeginnings, OpensAll};
+    ghost use Rattle.hosts.specs.Shifting.{CanGoOn, GivesOut, GoesOn, IsReady, OpensNext, Prepares, Shifts, Stays, StoresNext};
     ghost use Rattle.hosts.specs.Shifting.{TakesOwn};
-    ghost use Rattle.hosts.specs.States.{IsStateOf};
+    ghost use Rattle.hosts.specs.States.{IsStateOf, no_states};
+    ghost use Rattle.epochs.specs.Scheduling.{no_values};
     ghost use Rattle.proposer.specs.declared.fault.NodeFault.TheVariants.{OutOfMemory};
     ghost use Rattle.hosts.specs.Taking.{IsAllOf};
-    ghost use Rattle.hosts.specs.Hosts.{AreMembers, IsHonest, KeepsTrust, SameHost, StandsAs, are_up, member_of};
+    ghost use Rattle.acceptor.specs.Content.{Content};
+    ghost use Rattle.hosts.specs.Hosts.{AreMembers, IsHonest, KeepsTrust, SameHost, StandsAs, are_up, begins_of, member_of};
     ghost use Rattle.hosts.specs.Hosts.{has_before as has_before_lem, number_of, places_of};
-    ghost use Rattle.hosts.specs.Views.{HostView, MovesIn, Releases, TellsAgain, opening};
+    ghost use Rattle.hosts.specs.Starting.{IsAt};
+    ghost use Rattle.hosts.specs.Views.{AreBegun, HostView, MovesIn, Releases, TellsAgain, opening};
 
     /// A host that has done nothing, of so many places in an epoch, 1 to 999,000.
     pub fn new(alloc: Global, opens: O, places: u64) -> Result<Host<O>, HostFault>
@@ -72,31 +87,50 @@ impl<O: Opens> Host<O> {
         ensures places { IfOk result (λ host. places_of host ≡ places) }
         ensures member { IfOk result (λ host. member_of host ≡ O.member opens) }
         ensures members { IfOk result AreMembers }
-        ensures opens { IfOk result (λ host. IsHonest host → StandsAs host (opening (O.begins opens))) }
+        ensures kept { IfOk result HaveKept }
+        ensures begins { IfOk result (λ host. (e : ℕ) (c : Content) → begins_of host e c → O.begins opens e c) }
+        ensures opens { IfOk result (λ host. IsHonest host → (contents : ℕ → Content) × AreBegun (O.begins opens) 1 2 contents × StandsAs host (opening contents)) }
     {
-        if places == 0 || MOST_EPOCH_PLACES < places {
-            return Err(HostFault::Places);
-        }
-        match Host::opened(alloc, opens, places) {
+        match Host::begun(alloc, opens, places) {
             Ok(host) => Ok(host),
-            Err(fault) => Err(HostFault::Node(fault)),
+            Err((fault, _)) => Err(fault),
         }
     }
 
-    /// The same of a number of places that an epoch may have.
-    fn opened(alloc: Global, opens: O, places: u64) -> Result<Host<O>, NodeFault>
-        requires { ArePlaces places }
-        ensures fails { IfErr result O.may_fail }
+    /// The same. Where there is no host, what opens nodes is given back.
+    pub fn begun(alloc: Global, opens: O, places: u64) -> Result<Host<O>, (HostFault, O)>
+        ensures counts { MatchResult result (λ host. ArePlaces places) (λ why. IsNoHost O.may_fail places why.0) }
         ensures places { IfOk result (λ host. places_of host ≡ places) }
         ensures member { IfOk result (λ host. member_of host ≡ O.member opens) }
         ensures members { IfOk result AreMembers }
-        ensures opens { IfOk result (λ host. IsHonest host → StandsAs host (opening (O.begins opens))) }
+        ensures kept { IfOk result HaveKept }
+        ensures begins { IfOk result (λ host. (e : ℕ) (c : Content) → begins_of host e c → O.begins opens e c) }
+        ensures opens { IfOk result (λ host. IsHonest host → (contents : ℕ → Content) × AreBegun (O.begins opens) 1 2 contents × StandsAs host (opening contents)) }
+        ensures back { IfErr result (λ why. KeepsBeginnings O.member O.begins opens why.1) }
     {
+        schedulers_follow_values();
+        epochs_join();
+        if !are_places(places) {
+            return Err((HostFault::Places, opens));
+        }
         let mut opens = opens;
-        let own = opens.open(1)?;
-        let after = opens.open(2)?;
-        let states = States::new(alloc, own.id(), own.members());
-        Ok(Host {
+        match open_window(&mut opens, 1, false) {
+            Ok(window) => Ok(Host::at_first(alloc, opens, places, window)),
+            Err(fault) => Err((HostFault::Node(fault), opens)),
+        }
+    }
+
+    /// A host that has done nothing, whose nodes were opened.
+    fn at_first(alloc: Global, opens: O, places: u64, window: Window<O::Node>) -> Host<O>
+        requires few { ArePlaces places }
+        requires none { window.before ≡ None }
+        ensures opens { result.opens ≡ opens }
+        ensures places { result.places ≡ places }
+        ensures states { result.states ≡ no_states (O.member opens).0 (O.member opens).1 }
+        ensures at { IsAt result 1 0 no_values window }
+    {
+        let states = States::new(alloc, opens.id(), opens.members());
+        Host {
             alloc,
             opens,
             places,
@@ -105,10 +139,10 @@ impl<O: Opens> Host<O> {
             cursor: 0,
             scheduler: Scheduler::new(alloc),
             states,
-            before: None,
-            own: Seat::new(own),
-            after: Seat::new(after),
-        })
+            before: window.before,
+            own: window.own,
+            after: window.after,
+        }
     }
 
     /// The places of an epoch that count.
@@ -178,8 +212,10 @@ impl<O: Opens> Host<O> {
         ensures same { SameHost self.old self.new }
         ensures members { AreMembers self.old → AreMembers self.new }
         ensures trust { KeepsTrust self.old self.new }
+        ensures kept { HaveKept self.old → HaveKept self.new }
+        ensures stores { number_of self.new ≢ number_of self.old → StoresNext self.old self.new }
         ensures moves { IsHonest self.new → (v : HostView) → StandsAs self.old v
-            → (v' : HostView) × Releases O.may_fail (places_of self.old) v now result v' × StandsAs self.new v' }
+            → (v' : HostView) × Releases (begins_of self.old) O.may_fail (places_of self.old) v now result v' × StandsAs self.new v' }
     {
         schedulers_follow_values();
         epochs_join();
@@ -255,6 +291,21 @@ impl<O: Opens> Host<O> {
         }
     }
 
+    /// Opens the node behind the next epoch, and then keeps the state at the start of that.
+    fn open_next(&mut self) -> Result<Seat<O::Node>, NodeFault>
+        requires { CanGoOn self.old }
+        ensures opens { IfOk result (λ seat. OpensNext self.old seat self.new) }
+        ensures stays { Stays self.old self.new }
+        ensures fails { IfErr result O.may_fail }
+    {
+        let opened = open_seat(&mut self.opens, self.number + 2)?;
+        let Some(state) = self.states.next() else {
+            unreachable!()
+        };
+        self.opens.keep_state(self.number + 1, state)?;
+        Ok(opened)
+    }
+
     /// Goes on in the next epoch.
     fn shift(&mut self) -> Result<(), NodeFault>
         requires { CanGoOn self.old }
@@ -262,13 +313,14 @@ impl<O: Opens> Host<O> {
         ensures err { OnErr result (Stays self.old self.new) }
         ensures fails { IfErr result O.may_fail }
     {
-        let opened = self.opens.open(self.number + 2)?;
-        let after = mem::replace(&mut self.after, Seat::new(opened));
+        let opened = self.open_next()?;
+        let after = mem::replace(&mut self.after, opened);
         let own = mem::replace(&mut self.own, after);
         self.before = Some(own);
         self.states.go_on();
         self.number += 1;
         self.taken = 0;
+        self.opens.let_go(self.number);
         Ok(())
     }
 
@@ -348,6 +400,7 @@ impl<O: Opens> Host<O> {
         ensures same { SameHost self.old self.new }
         ensures members { AreMembers self.old → AreMembers self.new }
         ensures trust { KeepsTrust self.old self.new }
+        ensures kept { HaveKept self.old → HaveKept self.new }
         ensures moves { IsHonest self.new → (v : HostView) → StandsAs self.old v → JoinsAs self.old v state.now result self.new }
     {
         schedulers_follow_values();
@@ -381,12 +434,26 @@ impl<O: Opens> Host<O> {
     fn can_join(&self, head: &StateHead) -> bool
         ensures { IsTrue result ↔ CanJoin self.now head.now }
     {
-        head.members == self.states.members()
-            && head.id < head.members
-            && head.places == self.places
-            && self.number < head.epoch
-            && self.places < u64::MAX - head.before
-            && head.epoch.checked_mul(self.places) == Some(head.before + self.places)
+        is_of_hosts(self.states.members(), self.places, head) && self.number < head.epoch
+    }
+
+    /// Opens what it lacks of the epoch of a state, and then keeps its own state of that.
+    fn ready_for(
+        &mut self,
+        head: &StateHead,
+        machine: &Machine,
+    ) -> Result<(Vec<u8>, Opened<O::Node>), NodeFault>
+        requires { CanJoin self.old head.now }
+        ensures ready { IfOk result (λ found. IsReadyFor self.old head.now machine.now found.0.items found.1 self.new) }
+        ensures stays { Stays self.old self.new }
+        ensures fails { IfErr result (λ fault. O.may_fail fault ⊎ (fault ≡ OutOfMemory)) }
+    {
+        let bytes = self
+            .states
+            .made(head.epoch, self.places, head.before, machine)?;
+        let opened = self.open_for(head.epoch)?;
+        self.opens.keep_state(head.epoch, bytes.as_slice())?;
+        Ok((bytes, opened))
     }
 
     /// Goes to the start of an epoch.
@@ -396,10 +463,8 @@ impl<O: Opens> Host<O> {
         ensures err { OnErr result (Stays self.old self.new) }
         ensures fails { IfErr result (λ fault. O.may_fail fault ⊎ (fault ≡ OutOfMemory)) }
     {
-        let (epoch, before) = (head.epoch, head.before);
-        let bytes = self.states.made(epoch, self.places, before, &machine)?;
-        let opened = self.open_for(epoch)?;
-        let gap = epoch - self.number;
+        let (bytes, opened) = self.ready_for(head, &machine)?;
+        let gap = head.epoch - self.number;
         enter(
             gap,
             &mut self.before,
@@ -408,10 +473,11 @@ impl<O: Opens> Host<O> {
             opened,
         );
         self.states.set_own(bytes);
-        self.scheduler = Scheduler::opened(self.alloc, machine, before);
-        self.number = epoch;
+        self.scheduler = Scheduler::opened(self.alloc, machine, head.before);
+        self.number = head.epoch;
         self.taken = 0;
-        self.cursor = before;
+        self.cursor = head.before;
+        self.opens.let_go(head.epoch);
         Ok(())
     }
 
@@ -419,15 +485,16 @@ impl<O: Opens> Host<O> {
     fn open_for(&mut self, epoch: u64) -> Result<Opened<O::Node>, NodeFault>
         requires { (self.old.number < epoch) × (epoch < 2 ^ 64 - 1) }
         ensures opened { IfOk result (IsOpenedFor self.old epoch) }
+        ensures opens { OnOk result (OpensAll O.opens_node self.old.opens (lacked self.old.number epoch) self.new.opens) }
         ensures stays { Stays self.old self.new }
         ensures fails { IfErr result O.may_fail }
     {
         let own = if epoch == self.number + 1 {
             None
         } else {
-            Some(Seat::new(self.opens.open(epoch)?))
+            Some(open_seat(&mut self.opens, epoch)?)
         };
-        let after = Seat::new(self.opens.open(epoch + 1)?);
+        let after = open_seat(&mut self.opens, epoch + 1)?;
         Ok(Opened { own, after })
     }
 }

@@ -6,11 +6,15 @@ mod beyond;
 mod entering;
 mod fault;
 mod host;
+mod keeping;
 mod opens;
+mod starting;
 mod states;
 mod taking;
+mod window;
 
 pub use acted::{Given, HostActed};
 pub use fault::{HostFault, JoinFault};
 pub use host::{Host, MOST_EPOCH_PLACES};
 pub use opens::{NewNodes, NewRecords, Opens, PlainOpens};
+pub use starting::Start;

@@ -36,6 +36,7 @@ impl Model for States {
 
 impl States {
     ghost use Rattle.std.specs.Prelude.{◌≡◌, ℕ, List, IfOk, Some, None, is_some};
+    ghost use Rattle.std.specs.Option.{option_map};
     ghost use Rattle.ballots.specs.Members.{member_count};
     ghost use Rattle.hosts.specs.States.{IsMade, IsOwnState, IsStateOf, gone_on, head_in, no_states};
 
@@ -91,6 +92,26 @@ impl States {
     {
         let head = self.head(epoch, places, before);
         state_bytes(self.alloc, &head, machine)
+    }
+
+    /// The state at the start of the next epoch, where it is there.
+    pub(crate) fn next(&self) -> Option<&[u8]>
+        ensures { option_map (λ bytes. bytes.now) result ≡ self.now.next }
+    {
+        match &self.next {
+            Some(bytes) => Some(bytes.as_slice()),
+            None => None,
+        }
+    }
+
+    /// That at the start of its own epoch, where it is kept.
+    pub(crate) fn own(&self) -> Option<&[u8]>
+        ensures { option_map (λ bytes. bytes.now) result ≡ self.now.own }
+    {
+        match &self.own {
+            Some(bytes) => Some(bytes.as_slice()),
+            None => None,
+        }
     }
 
     /// The state at the start of the next epoch is this one.

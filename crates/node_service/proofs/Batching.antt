@@ -15,7 +15,7 @@ use Rattle.node_service.specs.declared.lines.Lines.{Ghosts as Inputs}
 use Rattle.node_service.specs.declared.outbox.Outbox.{Ghosts as Outputs}
 use Rattle.node_lines.specs.declared.writing.Unwritten.{Unwritten}
 use Rattle.node_service.specs.Batched.{BatchedTurns, Closes, Commits, EndsBatchedBy, FailsToClose, FailsWithin}
-use Rattle.node_service.specs.Batched.{LineTurn, ReadsNoMore, ServesBatched, UnkeptTurns, lines_in, replies_in, text_in}
+use Rattle.node_service.specs.Batched.{LineTurn, DoesNoMore, ServesBatched, UnkeptTurns, lines_in, replies_in, text_in}
 
 -- commits, and then more of them
 commits_on : {A R : Type 0} (keeper : Keepers A R) (m n : ℕ) (a b c : A) → Commits keeper m a b → Commits keeper n b c → (k : ℕ) × Commits keeper k a c
@@ -213,7 +213,7 @@ module _ {A R I O : Type 0} (keeper : Keepers A R) (text : R → List ℕ) (inpu
 
   -- behind a commit the first ones were replied to, and the next one wasn't
   pub fails_midway : (seen waiting : List (List ℕ × R)) (n : ℕ) (why : Unwritten) (am : A) (im : I) (om : O) (a' : A) (i' : I) (o' : O) → Serving keeper text input output seen waiting a i o am im om
-      → ReadsNoMore input im i' → Commits keeper n am a' → keeper.has_kept a' → FailsWithin text output (replies_in waiting) why om o'
+      → DoesNoMore keeper input im i' → Commits keeper n am a' → keeper.has_kept a' → FailsWithin text output (replies_in waiting) why om o'
       → EndsBatchedBy keeper text input output (ends.Unwritten why) a i o a' i' o'
   fails_midway seen waiting n why am im om a' i' o' s no_more commits kept (front, back, held, split, written, fails) =
       let parts = split_turns waiting front back split in
@@ -244,7 +244,7 @@ module _ {A R I O : Type 0} (keeper : Keepers A R) (text : R → List ℕ) (inpu
 
   -- it ends where a batch can't be closed
   pub ends_early : (seen waiting : List (List ℕ × R)) (end : BatchedEnd) (am : A) (im : I) (om : O) (a' : A) (i' : I) (o' : O) → Serving keeper text input output seen waiting a i o am im om
-      → ReadsNoMore input im i' → FailsToClose keeper text output (replies_in waiting) end am om a' o' → EndsBatchedBy keeper text input output end a i o a' i' o'
+      → DoesNoMore keeper input im i' → FailsToClose keeper text output (replies_in waiting) end am om a' o' → EndsBatchedBy keeper text input output end a i o a' i' o'
   ends_early seen waiting ends.Uncommitted am im om a' i' o' s no_more (told, fails, down, written) =
       (seen, waiting, am, im, om, told, served seen waiting am im om s, no_more, fails, down, written)
   ends_early seen waiting (ends.Unwritten why) am im om a' i' o' s no_more (inl (same, fails)) =

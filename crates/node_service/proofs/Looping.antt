@@ -1,6 +1,6 @@
 -- What the loop over lines keeps, and how it ends.
 use Rattle.std.proofs.Common.{◌≡◌, ◌⊎◌, inl, inr, ℕ, ◌+◌, ◌-◌, ◌^◌, List, [], ◌∷◌, ◌++◌, length, Bool, true, false}
-use Rattle.std.proofs.Common.{Option, Result, Ok, Err, refl, sym, ap, ◌∙◌, subst, append_assoc, length-append}
+use Rattle.std.proofs.Common.{IsTrue, Option, Result, Ok, Err, refl, sym, ap, ◌∙◌, subst, append_assoc, length-append}
 use Rattle.std.specs.Io.KnownBytes.{Consumes}
 use Rattle.std.specs.List.{Contains}
 use Rattle.std.proofs.lemmas.List.{append-nil, map-append}
@@ -13,8 +13,8 @@ use Rattle.node_service.specs.declared.outbox.Outbox.{Ghosts as Outputs}
 use Rattle.node_lines.specs.declared.fault.LineFault.{LineFault}
 use Rattle.node_lines.specs.declared.input.Next.{Next}
 use Rattle.node_lines.specs.declared.input.Next.TheVariants as next
-use Rattle.node_service.specs.Batched.{Closes, EndsBatchedBy, FailsToClose, IsCameOf, LineTurn, ReadsNoMore, Takes}
-use Rattle.node_service.specs.Batched.{replies_in}
+use Rattle.node_service.specs.Batched.{Closes, EndsBatchedBy, FailsToClose, IsCameOf, LineTurn, DoesNoMore, Takes}
+use Rattle.node_service.specs.Batched.{UnkeptTurns, comes_apart, replies_in}
 use Rattle.node_service.specs.Came.{next_of}
 use Rattle.node_lines.specs.Input.{ReadsLine}
 use Rattle.node_service.proofs.Batching.{Serving, closed, ends_early, one_waits, served}
@@ -51,6 +51,9 @@ module _ {A R I O : Type 0} (keeper : Keepers A R) (text : R → List ℕ) (inpu
 
   abbrev IsAt : ℕ → List R → A → I → O → Type 0
   IsAt n rs b j p = IsServing keeper text input output ahead n rs a i o b j p
+
+  abbrev IsBefore : ℕ → List R → A → I → O → Type 0
+  IsBefore n rs b j p = Taken n rs b j p × keeper.has_noted b × keeper.has_room b × (keeper.up b ≡ true)
 
   abbrev Ends : BatchedEnd → A → I → O → Type 0
   Ends end b j p = EndsBatchedBy keeper text input output end a i o b j p
@@ -106,11 +109,44 @@ module _ {A R I O : Type 0} (keeper : Keepers A R) (text : R → List ℕ) (inpu
         ready = inl it.1;
       }
 
+  -- nothing waits where no reply does
+  none_unkept : (n : ℕ) (rs : List R) (b : A) (j : I) (p : O) → Taken n rs b j p → rs ≡ [] → keeper.has_kept b
+  none_unkept n rs b j p s none =
+      let nobody : s.waiting ≡ [] = none_waits s.waiting (sym s.replies ∙ none) in
+      let left : UnkeptTurns keeper input [] s.serving.mid s.serving.from b j = subst (λ (ts : List (List ℕ × R)). UnkeptTurns keeper input ts s.serving.mid s.serving.from b j) nobody s.serving.waits in
+      subst (λ (x : A). keeper.has_kept x) (sym left.0) s.serving.kept
+
+  -- before a line that came it goes on, or all is closed
+  pub before_line : (n : ℕ) (rs : List R) (b : A) (j : I) (p : O) (rs' : List R) (b' : A) (p' : O) (on : Bool) → Taken n rs b j p → keeper.has_noted b → keeper.has_room b → keeper.up b ≡ true
+      → (on ≡ true → (rs' ≡ rs) × (b' ≡ b) × (p' ≡ p)) → (on ≡ false → Shuts rs b p b' p' × (rs' ≡ [])) → IsBefore n rs' b' j p'
+  before_line n rs b j p rs' b' p' true s noted room up same shuts =
+      let is = same refl in
+      let here : IsBefore n rs b j p = (s, noted, room, up) in
+      subst (λ (x : O). IsBefore n rs' b' j x) (sym is.2) (subst (λ (x : A). IsBefore n rs' x j p) (sym is.1) (subst (λ (xs : List R). IsBefore n xs b j p) (sym is.0) here))
+  before_line n rs b j p rs' b' p' false s noted room up same shuts =
+      let it = shuts refl in (shut_taken n rs rs' b j p b' p' s it.0 it.1, it.0.noted, it.0.room, it.0.same ∙ up)
+
+  -- and a crash leaves all that was done before a line that is done apart
+  pub kept_before : (n : ℕ) (rs : List R) (b : A) (j : I) (p : O) (rs' : List R) (b' : A) (p' : O) (on apart : Bool) → Taken n rs b j p
+      → (IsTrue on → (rs ≡ []) ⊎ (apart ≡ false)) → (on ≡ true → (rs' ≡ rs) × (b' ≡ b) × (p' ≡ p)) → (on ≡ false → Shuts rs b p b' p' × (rs' ≡ [])) → apart ≡ true → keeper.has_kept b'
+  kept_before n rs b j p rs' b' p' true apart s may same shuts is = elim (may refl) [
+    | inl none ↦ subst (λ (x : A). keeper.has_kept x) (sym (same refl).1) (none_unkept n rs b j p s none)
+    | inr not ↦ absurd (cc (is, not))
+  ]
+  kept_before n rs b j p rs' b' p' false apart s may same shuts is = (shuts refl).0.kept
+
   -- a batch that can't be closed is the end
-  pub ends_open : (n : ℕ) (rs : List R) (end : BatchedEnd) (b : A) (j : I) (p : O) (b' : A) (j' : I) (p' : O) → Taken n rs b j p → ReadsNoMore input j j'
+  pub ends_open : (n : ℕ) (rs : List R) (end : BatchedEnd) (b : A) (j : I) (p : O) (b' : A) (j' : I) (p' : O) → Taken n rs b j p → DoesNoMore keeper input j j'
       → FailsToClose keeper text output rs end b p b' p' → Ends end b' j' p'
   ends_open n rs end b j p b' j' p' s no_more fails =
       ends_early keeper text input output a i o s.seen s.waiting end b j p b' j' p' s.serving no_more (subst (λ (xs : List R). FailsToClose keeper text output xs end b p b' p') s.replies fails)
+
+  -- one that can't be closed before a line that is done apart
+  pub ends_before : (n : ℕ) (rs : List R) (end : BatchedEnd) (b : A) (j : I) (p : O) (what : Next) (b' : A) (j' : I) (p' : O) → Taken n rs b j p → comes_apart keeper.is_apart what ≡ true
+      → input.gives j what j' → FailsToClose keeper text output rs end b p b' p' → Ends end b' j' p'
+  ends_before n rs end b j p (next.Line line) b' j' p' s apart gives fails = ends_open n rs end b j p b' j' p' s (inr (line, apart, gives)) fails
+  ends_before n rs end b j p (next.Refused why) b' j' p' s apart gives fails = absurd (cc apart)
+  ends_before n rs end b j p next.End b' j' p' s apart gives fails = absurd (cc apart)
 
   -- a batch that is closed before an end
   ends_at_end : (n : ℕ) (rs : List R) (end : BatchedEnd) (b : A) (j : I) (p : O) (b' : A) (j' : I) (p' : O) → Taken n rs b j p → keeper.up b ≡ true → input.gives j next.End j'
@@ -118,21 +154,21 @@ module _ {A R I O : Type 0} (keeper : Keepers A R) (text : R → List ℕ) (inpu
   ends_at_end n rs end b j p b' j' p' s up gives (left, last) (inl (is, closes)) =
       let all = shut n rs b j p b' p' s closes in
       subst (λ (e : BatchedEnd). Ends e b' j' p') (sym is) (all.0, j, left, served keeper text input output a i o all.0 [] b' j p' all.1, closes.same ∙ up, gives, last)
-  ends_at_end n rs end b j p b' j' p' s up gives comes (inr fails) = ends_open n rs end b j p b' j' p' s (inr (inl gives)) fails
+  ends_at_end n rs end b j p b' j' p' s up gives comes (inr fails) = ends_open n rs end b j p b' j' p' s (inl (inr (inl gives))) fails
 
   pub ends_unread : (n : ℕ) (rs : List R) (end : BatchedEnd) (b : A) (j : I) (p : O) (b' : A) (j' : I) (p' : O) → Taken n rs b j p → keeper.up b ≡ true → input.fails j j'
       → ((end ≡ ends.Unreadable) × Shuts rs b p b' p') ⊎ FailsToClose keeper text output rs end b p b' p' → Ends end b' j' p'
   ends_unread n rs end b j p b' j' p' s up failed (inl (is, closes)) =
       let all = shut n rs b j p b' p' s closes in
       subst (λ (e : BatchedEnd). Ends e b' j' p') (sym is) (all.0, j, served keeper text input output a i o all.0 [] b' j p' all.1, closes.same ∙ up, failed)
-  ends_unread n rs end b j p b' j' p' s up failed (inr fails) = ends_open n rs end b j p b' j' p' s (inr (inr failed)) fails
+  ends_unread n rs end b j p b' j' p' s up failed (inr fails) = ends_open n rs end b j p b' j' p' s (inl (inr (inr failed))) fails
 
   pub ends_spent : (n : ℕ) (rs : List R) (end : BatchedEnd) (b : A) (j : I) (p : O) (b' : A) (p' : O) → Taken n rs b j p → n ≡ 2 ^ 64 - 1
       → ((end ≡ ends.Spent) × Shuts rs b p b' p') ⊎ FailsToClose keeper text output rs end b p b' p' → Ends end b' j p'
   ends_spent n rs end b j p b' p' s most (inl (is, closes)) =
       let all = shut n rs b j p b' p' s closes in
       subst (λ (e : BatchedEnd). Ends e b' j p') (sym is) (all.0, served keeper text input output a i o all.0 [] b' j p' all.1, all.2 ∙ most)
-  ends_spent n rs end b j p b' p' s most (inr fails) = ends_open n rs end b j p b' j p' s (inl refl) fails
+  ends_spent n rs end b j p b' p' s most (inr fails) = ends_open n rs end b j p b' j p' s (inl (inl refl)) fails
 
   -- one that is down has kept all
   pub ends_down : (n : ℕ) (rs : List R) (b : A) (j : I) (p : O) → IsAt n rs b j p → keeper.up b ≡ false → Ends ends.Crashed b j p
@@ -146,9 +182,9 @@ module _ {A R I O : Type 0} (keeper : Keepers A R) (text : R → List ℕ) (inpu
 
   -- a line that came and was replied to waits
   pub turned : (n : ℕ) (rs : List R) (b : A) (j : I) (p : O) (what : Next) (replied : R) (b' : A) (j' : I) → Taken n rs b j p → keeper.up b ≡ true
-      → LineComes (input.bytes_left j) (input.bytes_left j') what → input.gives j what j' → (came : Result (List ℕ) LineFault) × (what ≡ next_of came) × keeper.replies b came replied b'
+      → (comes_apart keeper.is_apart what ≡ true → keeper.has_kept b) → LineComes (input.bytes_left j) (input.bytes_left j') what → input.gives j what j' → (came : Result (List ℕ) LineFault) × (what ≡ next_of came) × keeper.replies b came replied b'
       → Taken (n + 1) (rs ++ replied ∷ []) b' j' p
-  turned n rs b j p what replied b' j' s up comes gives (came, is, replies) =
+  turned n rs b j p what replied b' j' s up apart comes gives (came, is, replies) =
       let line = line_came (input.bytes_left j) (input.bytes_left j') what came is comes in
       let turn : LineTurn keeper input line.0 replied b j b' j' = record {
         came = came;
@@ -156,6 +192,7 @@ module _ {A R I O : Type 0} (keeper : Keepers A R) (text : R → List ℕ) (inpu
         is = line.2;
         gives = subst (λ (w : Next). input.gives j w j') is gives;
         up = up;
+        apart = λ kept. apart (ap (λ (w : Next). comes_apart keeper.is_apart w) is ∙ kept);
         replies = replies;
       } in
       one_more n rs b j p line.0 replied b' j' s turn line.1.1

@@ -1,5 +1,5 @@
 -- Lines that are served in batches: turns, with commits between them.
-use Rattle.std.specs.Prelude.{◌≡◌, ◌⊎◌, ℕ, zero, suc, ◌-◌, ◌^◌, ◌≤◌, List, [], ◌∷◌, ◌++◌, length, map, true, false}
+use Rattle.std.specs.Prelude.{◌≡◌, ◌⊎◌, ℕ, zero, suc, ◌-◌, ◌^◌, ◌≤◌, List, [], ◌∷◌, ◌++◌, length, map, Bool, true, false}
 use Rattle.std.specs.Prelude.{Result, Ok, Err}
 use Rattle.std.specs.List.{flat_map}
 use Rattle.std.specs.Io.KnownBytes.{Appends, Consumes, Keeps}
@@ -11,6 +11,7 @@ use Rattle.node_service.specs.declared.keeper.Keeper.{Ghosts as Keepers}
 use Rattle.node_service.specs.declared.lines.Lines.{Ghosts as Inputs}
 use Rattle.node_service.specs.declared.outbox.Outbox.{Ghosts as Outputs}
 use Rattle.node_lines.specs.declared.fault.LineFault.{LineFault}
+use Rattle.node_lines.specs.declared.input.Next.{Next}
 use Rattle.node_lines.specs.declared.input.Next.TheVariants as next
 use Rattle.node_lines.specs.declared.writing.Unwritten.{Unwritten}
 use Rattle.node_service.specs.Came.{next_of}
@@ -20,13 +21,20 @@ abbrev pub IsCameOf : List ℕ → Result (List ℕ) LineFault → Type 0
 IsCameOf line (Ok kept) = (kept ≡ line) × (length line ≤ longest_line)
 IsCameOf line (Err why) = IsDropped line why
 
--- a line came, and this is the reply to it, of one that was up
+-- what came is a line that is done apart
+abbrev pub comes_apart : (List ℕ → Bool) → Next → Bool
+comes_apart is_apart (next.Line line) = is_apart line
+comes_apart is_apart other = false
+
+-- a line came, and this is the reply to it, of one that was up. One that is done apart came where a crash leaves all
+-- that was done before
 pub record LineTurn {A R I : Type 0} (keeper : Keepers A R) (input : Inputs I) (line : List ℕ) (replied : R) (a : A) (i : I) (a' : A) (i' : I) : Type 0 where
   pub came : Result (List ℕ) LineFault
   pub whole : IsLine line
   pub is : IsCameOf line came
   pub gives : input.gives i (next_of came) i'
   pub up : keeper.up a ≡ true
+  pub apart : comes_apart keeper.is_apart (next_of came) ≡ true → keeper.has_kept a
   pub replies : keeper.replies a came replied a'
 
 -- so many commits, one after another
@@ -69,6 +77,10 @@ pub record ServesBatched {A R I O : Type 0} (keeper : Keepers A R) (text : R →
 -- no line was read behind these: nothing was, or no whole line was left, or the input failed
 abbrev pub ReadsNoMore : {I : Type 0} → Inputs I → I → I → Type 0
 ReadsNoMore input i i' = (i' ≡ i) ⊎ (input.gives i next.End i' ⊎ input.fails i i')
+
+-- no line was done behind these: none was read, or one that was to be done apart
+abbrev pub DoesNoMore : {A R I : Type 0} → Keepers A R → Inputs I → I → I → Type 0
+DoesNoMore keeper input i i' = ReadsNoMore input i i' ⊎ ((line : List ℕ) × (keeper.is_apart line ≡ true) × input.gives i (next.Line line) i')
 
 -- a text couldn't be written, which is the end
 abbrev pub FailsAt : {O : Type 0} → Outputs O → List ℕ → O → O → BatchedEnd → Type 0
@@ -123,11 +135,11 @@ EndsBatchedBy {A} {R} {I} {O} keeper text input output ends.Unreadable a i o a' 
     (turns : List (List ℕ × R)) × (rest : I) × ServesBatched keeper text input output turns [] [] a i o a' rest o' × (keeper.up a' ≡ true) × input.fails rest i'
 EndsBatchedBy {A} {R} {I} {O} keeper text input output ends.Uncommitted a i o a' i' o' =
     (turns waiting : List (List ℕ × R)) × (before : A) × (rest : I) × (sent : O) × (told : R)
-    × ServesBatched keeper text input output turns [] waiting a i o before rest sent × ReadsNoMore input rest i'
+    × ServesBatched keeper text input output turns [] waiting a i o before rest sent × DoesNoMore keeper input rest i'
     × keeper.fails before told a' × (keeper.up a' ≡ false) × Appends (output.bytes_held sent) (output.bytes_held o') (text told)
 EndsBatchedBy {A} {R} {I} {O} keeper text input output (ends.Unwritten why) a i o a' i' o' =
     (turns unseen waiting : List (List ℕ × R)) × (before : A) × (rest : I) × (sent : O)
-    × ServesBatched keeper text input output turns unseen waiting a i o before rest sent × ReadsNoMore input rest i'
+    × ServesBatched keeper text input output turns unseen waiting a i o before rest sent × DoesNoMore keeper input rest i'
     × (((a' ≡ before) × output.fails_to_send sent why o')
     ⊎ (((turn : List ℕ × R) × (later : List (List ℕ × R)) × (unseen ≡ turn ∷ later) × (a' ≡ before) × output.fails sent (text turn.1) why o')
     ⊎ ((told : R) × keeper.fails before told a' × FailsToTell output (text told) why sent o')))

@@ -1,13 +1,13 @@
 //! Whatever keeps what it did by commits, over lines: those that have come together share a commit.
 
-ghost use Rattle.std.specs.Prelude.{◌≡◌, ◌⊎◌, ◌++◌, ◌∷◌, [], ℕ, List, Result, IfErr, IfOk, IsTrue, MatchOption, OnErr};
-ghost use Rattle.std.specs.Prelude.{OnOk, false, true};
+ghost use Rattle.std.specs.Prelude.{◌≡◌, ◌⊎◌, ◌++◌, ◌∷◌, [], ℕ, List, Result, IfErr, IfOk, IsOk, IsTrue, MatchOption};
+ghost use Rattle.std.specs.Prelude.{OnErr, OnOk, false, true};
 ghost use Rattle.std.specs.List.{Contains, flat_map};
 ghost use Rattle.std.specs.Io.KnownBytes.{Appends};
 ghost use Rattle.node_lines.specs.Input.{LineComes};
 ghost use Rattle.node_service.specs.Came.{next_of};
 ghost use Rattle.node_service.specs.Batched.{Closes, Commits, EndsBatchedBy, FailsAt, FailsToClose, FailsToTell};
-ghost use Rattle.node_service.specs.Batched.{FailsWithin, Takes};
+ghost use Rattle.node_service.specs.Batched.{FailsWithin, Takes, comes_apart};
 ghost use Rattle.node_lines.specs.declared.fault.LineFault.{LineFault as WhyNot};
 ghost use Rattle.node_lines.specs.declared.input.Next.TheVariants as next;
 
@@ -55,6 +55,7 @@ fn next_unless_waiting<I: Lines + Ahead, R>(
 /// The reply to what came. None where no line is left.
 fn reply_to_next<K: Keeper>(alloc: Global, keeper: &mut K, what: Next) -> Option<K::Reply>
     requires up { K.up keeper.old ≡ true }
+    requires apart { comes_apart K.is_apart what ≡ true → K.has_kept keeper.old }
     requires noted { K.has_noted keeper.old }
     requires room { K.has_room keeper.old }
     ensures replies { MatchOption result ((what ≡ next.End) × (keeper.new ≡ keeper.old))
@@ -179,6 +180,7 @@ fn close_unless<K: Keeper, O: Outbox>(
     output: &mut O,
 ) -> Result<(), BatchedEnd>
     requires { K.has_noted keeper.old }
+    ensures done { IsTrue goes_on → IsOk result }
     ensures open { IsTrue goes_on → OnOk result ((replies.new.items ≡ replies.old.items) × (keeper.new ≡ keeper.old) × (output.new ≡ output.old)) }
     ensures closed { goes_on ≡ false → OnOk result (Closes K.Keeper K.Reply.text O.Outbox replies.old.items keeper.old output.old keeper.new output.new
         × (replies.new.items ≡ [])) }
@@ -258,6 +260,20 @@ fn has_more<K: Keeper, I: Lines + Ahead>(count: u64, keeper: &K, input: &I) -> b
     !is_last && input.has_line() && keeper.can_act() && !keeper.is_full()
 }
 
+/// Whether what came may be done before a commit: no reply waits, or it isn't done apart.
+fn may_be_done<K: Keeper>(keeper: &K, replies: &Vec<K::Reply>, what: &Next) -> bool
+    ensures may { IsTrue result → (replies.now.items ≡ []) ⊎ (comes_apart K.is_apart what.now ≡ false) }
+    ensures apart { result ≡ false → comes_apart K.is_apart what.now ≡ true }
+{
+    if replies.is_empty() {
+        return true;
+    }
+    match what {
+        Next::Line(line) => !keeper.is_apart(line),
+        _ => true,
+    }
+}
+
 /// Does what the lines ask that have come together, keeps that, and only then replies to those that changed something
 /// and to all behind them; and so on.
 #[tactic(auto, using(crate::proofs::Looping::ends_down))]
@@ -280,6 +296,10 @@ pub fn serve_batched<K: Keeper, I: Lines + Ahead, O: Outbox>(
         let Ok(what) = next_unless_waiting(alloc, input, &replies) else {
             return close_before(BatchedEnd::Unreadable, alloc, keeper, &mut replies, output);
         };
+        let is_now = may_be_done(keeper, &replies, &what);
+        if let Err(end) = close_unless(is_now, alloc, keeper, &mut replies, output) {
+            return end;
+        }
         let Some(reply) = reply_to_next(alloc, keeper, what) else {
             return close_before(BatchedEnd::Input, alloc, keeper, &mut replies, output);
         };

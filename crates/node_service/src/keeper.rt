@@ -1,6 +1,6 @@
 //! What replies to lines, and keeps what it did by commits.
 
-ghost use Rattle.std.specs.Prelude.{◌≡◌, ℕ, Bool, List, Result, IfErr, OnErr, OnOk, false, true};
+ghost use Rattle.std.specs.Prelude.{◌≡◌, ℕ, Bool, List, Result, IfErr, IfOk, OnErr, OnOk, false, true};
 ghost use Rattle.node_lines.specs.declared.fault.LineFault.{LineFault as WhyNot};
 
 use crate::outbox::Told;
@@ -22,6 +22,9 @@ pub trait Keeper {
     // What it did since the last commit is noted, so that the next one keeps it.
     ghost has_noted: { Self → Type 0 };
 
+    // It does what this line asks only once a crash leaves all that it did before.
+    ghost is_apart: { List ℕ → Bool };
+
     // There is room to note one thing more.
     ghost has_room: { Self → Type 0 };
 
@@ -37,9 +40,14 @@ pub trait Keeper {
     fn can_act(&self) -> bool
         ensures { result ≡ up self.now };
 
+    /// Whether it does what the line asks only once all that it did before is kept.
+    fn is_apart(&self, line: &Bytes) -> bool
+        ensures { result ≡ is_apart line.now };
+
     /// It does what the line asks, if anything.
     fn reply_to(&mut self, alloc: Global, line: Result<Bytes, LineFault>) -> Self::Reply
         requires up { up self.old ≡ true }
+        requires apart { IfOk line (λ line. is_apart line ≡ true → has_kept self.old) }
         requires noted { has_noted self.old }
         requires room { has_room self.old }
         ensures replies { replies self.old line result self.new }

@@ -11,3 +11,4 @@ pub mod Gives
 pub mod Acted
 pub mod Owes
 pub mod Acts
+pub mod Keeping

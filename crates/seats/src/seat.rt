@@ -12,8 +12,8 @@ use world_events::EventRefusal;
 /// A node, and whether it is up. One that is up isn't down for itself.
 #[derive(Drop)]
 pub struct Seat<N: Node> {
-    node: N,
-    up: bool,
+    pub(crate) node: N,
+    pub(crate) up: bool,
     ghost runs: { up ≡ true → (N.who node).down ≡ false },
 }
 

@@ -1,5 +1,6 @@
 mod Best
 mod Doing
 mod Finds
+mod Greatest
 mod Listed
 mod Named

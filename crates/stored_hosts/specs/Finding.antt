@@ -1,5 +1,5 @@
 -- Which state of a folder counts, and what a start finds there.
-use Rattle.std.specs.Prelude.{◌≡◌, ◌≢◌, ◌↔◌, ◌≤◌, ◌+◌, ◌-◌, ℕ, nat_lt, if◌then◌else◌, IsTrue, List, [], Option, None}
+use Rattle.std.specs.Prelude.{◌≡◌, ◌≢◌, ◌↔◌, ◌⊎◌, ◌<◌, ◌≤◌, ◌+◌, ◌-◌, ◌^◌, ℕ, nat_lt, if◌then◌else◌, IsTrue, List, [], Option, None}
 use Rattle.std.specs.Prelude.{Some, Result, Ok, Err, Contains, MatchOption, ⊤}
 use Rattle.flow_state.specs.Rows.{Rows}
 use Rattle.host_states.specs.States.{IsState}
@@ -7,7 +7,7 @@ use Rattle.host_states.specs.declared.head.StateHead.{StateHead}
 use Rattle.stored_hosts.specs.Committing.{file_of}
 use Rattle.stored_hosts.specs.declared.fault.FolderFault.{FolderFault}
 use Rattle.stored_hosts.specs.declared.fault.FolderFault.TheVariants.{NoStore, OtherNode, OtherMembers, OtherPlaces}
-use Rattle.stored_hosts.specs.declared.fault.FolderFault.TheVariants.{Damaged, Refused, OutOfMemory}
+use Rattle.stored_hosts.specs.declared.fault.FolderFault.TheVariants.{Damaged, Unread, Refused, OutOfMemory}
 use Rattle.stored_hosts.specs.declared.finding.Found.{Found}
 use Rattle.stored_hosts.specs.declared.finding.Found.TheVariants.{Nothing, Whole}
 use Rattle.stored_hosts.specs.declared.finding.StateFile.{StateFile}
@@ -44,16 +44,27 @@ pub record IsOf (which : WhichHost) (head : StateHead) : Type 0 where
   pub members : head.members ≡ which.members
   pub places : head.places ≡ which.places
 
--- or the first of these that differs is this one
+-- or the first of these that differs is this one, and the head is told
 abbrev pub IsOther : WhichHost → StateHead → FolderFault → Type 0
-IsOther which head OtherNode = head.id ≢ which.id
-IsOther which head OtherMembers = (head.id ≡ which.id) × (head.members ≢ which.members)
-IsOther which head OtherPlaces = (head.id ≡ which.id) × (head.members ≡ which.members) × (head.places ≢ which.places)
+IsOther which head (OtherNode told) = (told ≡ head) × (head.id ≢ which.id)
+IsOther which head (OtherMembers told) = (told ≡ head) × (head.id ≡ which.id) × (head.members ≢ which.members)
+IsOther which head (OtherPlaces told) = (told ≡ head) × (head.id ≡ which.id) × (head.members ≡ which.members) × (head.places ≢ which.places)
 IsOther which head other = ⊥
 
 -- the databases of an epoch and of the one behind it are there
 abbrev pub HasBoth : List HostFile → ℕ → Type 0
 HasBoth files epoch = Contains files (file_of epoch Database) × Contains files (file_of (epoch + 1) Database)
+
+-- the database of this epoch is the first of both that isn't there
+abbrev pub IsFirstLacking : List HostFile → (epoch lacking : ℕ) → Type 0
+IsFirstLacking files epoch lacking =
+    ((lacking ≡ epoch) × ¬ Contains files (file_of epoch Database))
+    ⊎ (Contains files (file_of epoch Database) × (¬ Contains files (file_of (epoch + 1) Database)) × (epoch + 1 < 2 ^ 64 → lacking ≡ epoch + 1))
+
+-- the greatest epoch of these files, by their names
+pub record IsGreatest (files : List StateFile) (epoch : ℕ) : Type 0 where
+  pub is : (file : StateFile) × Contains files file × (file.epoch ≡ epoch)
+  pub greatest : (file : StateFile) → Contains files file → file.epoch ≤ epoch
 
 abbrev pub OnlyWants : FolderFault → Type 0
 OnlyWants fault = fault ≡ OutOfMemory
@@ -64,8 +75,10 @@ Finds which files states (Ok Nothing) = states ≡ []
 Finds which files states (Ok (Whole start)) =
     Counts states start.head start.machine × IsOf which start.head × HasBoth files start.head.epoch
     × (IsTrue start.has_before ↔ Contains files (file_of (start.head.epoch - 1) Database))
-Finds which files states (Err NoStore) = (head : StateHead) × (rows : Rows) × Counts states head rows × IsOf which head × ¬ HasBoth files head.epoch
-Finds which files states (Err Damaged) = (states ≢ []) × NoneCounts states
+Finds which files states (Err (NoStore lacking)) =
+    (head : StateHead) × (rows : Rows) × Counts states head rows × IsOf which head × IsFirstLacking files head.epoch lacking
+Finds which files states (Err (Damaged last)) = IsGreatest states last × NoneCounts states
 Finds which files states (Err OutOfMemory) = ⊤
+Finds which files states (Err (Unread epoch why)) = ⊥
 Finds which files states (Err (Refused why)) = ⊥
 Finds which files states (Err other) = (head : StateHead) × (rows : Rows) × Counts states head rows × IsOther which head other

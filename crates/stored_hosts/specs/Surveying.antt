@@ -4,7 +4,7 @@ use Rattle.std.specs.declared.io.Error.{Error}
 use Rattle.stored_hosts.specs.Committing.{file_of}
 use Rattle.stored_hosts.specs.Finding.{Finds}
 use Rattle.stored_hosts.specs.declared.fault.FolderFault.{FolderFault}
-use Rattle.stored_hosts.specs.declared.fault.FolderFault.TheVariants.{Refused, OutOfMemory}
+use Rattle.stored_hosts.specs.declared.fault.FolderFault.TheVariants.{Unread, Refused, OutOfMemory}
 use Rattle.stored_hosts.specs.declared.finding.Found.{Found}
 use Rattle.stored_hosts.specs.declared.finding.StateFile.{StateFile}
 use Rattle.stored_hosts.specs.declared.finding.WhichHost.{WhichHost}
@@ -24,6 +24,7 @@ module _ {F : Type 0} (holds : F → HostFile → List ℕ → Type 0) (unread :
 
   -- a look into it failed so, or memory ran out
   abbrev pub IsUnread : F → FolderFault → Type 0
+  IsUnread f (Unread epoch why) = unread f why
   IsUnread f (Refused why) = unread f why
   IsUnread f OutOfMemory = ⊤
   IsUnread f other = ⊥
@@ -31,6 +32,7 @@ module _ {F : Type 0} (holds : F → HostFile → List ℕ → Type 0) (unread :
   -- it could not be looked into; or this is what a start finds where it has the files that it may have, and the states
   -- hold the bytes that they may hold
   abbrev pub Surveys : (F → List HostFile → Type 0) → WhichHost → F → Result Found FolderFault → Type 0
+  Surveys lists which f (Err (Unread epoch why)) = unread f why
   Surveys lists which f (Err (Refused why)) = unread f why
   Surveys lists which f (Err OutOfMemory) = ⊤
   Surveys lists which f found = (files : List HostFile) × (states : List StateFile) × lists f files × AreRead f files states × Finds which files states found

@@ -1,11 +1,12 @@
 //! Which state of a folder counts, and what a start finds there.
 
-ghost use Rattle.std.specs.Prelude.{◌≡◌, ◌↔◌, ◌+◌, Contains, IfErr, IfOk, IsTrue, MatchOption};
+ghost use Rattle.std.specs.Prelude.{◌≡◌, ◌≢◌, ◌↔◌, ◌+◌, [], max, Contains, IfErr, IfOk, IsTrue, MatchOption};
 ghost use Rattle.flow_state.specs.Rows.{Rows};
 ghost use Rattle.host_states.specs.States.{IsWant};
 ghost use Rattle.host_states.specs.declared.head.StateHead.{StateHead as Head};
 ghost use Rattle.stored_hosts.specs.Committing.{file_of};
-ghost use Rattle.stored_hosts.specs.Finding.{Finds, HasBoth, IsBest, IsOf, IsOther, IsWhole, OnlyWants, later};
+ghost use Rattle.stored_hosts.specs.Finding.{Finds, HasBoth, IsBest, IsFirstLacking, IsGreatest, IsOf, IsOther};
+ghost use Rattle.stored_hosts.specs.Finding.{IsWhole, OnlyWants, later};
 ghost use Rattle.stored_hosts.specs.declared.names.FileKind.TheVariants.{Database};
 
 use crate::fault::FolderFault;
@@ -107,11 +108,11 @@ fn other_host(which: WhichHost, head: &StateHead) -> Option<FolderFault>
     ensures { MatchOption result (IsOf which head.now) (λ fault. IsOther which head.now fault) }
 {
     if head.id != which.id {
-        Some(FolderFault::OtherNode)
+        Some(FolderFault::OtherNode(*head))
     } else if head.members != which.members {
-        Some(FolderFault::OtherMembers)
+        Some(FolderFault::OtherMembers(*head))
     } else if head.places != which.places {
-        Some(FolderFault::OtherPlaces)
+        Some(FolderFault::OtherPlaces(*head))
     } else {
         None
     }
@@ -135,11 +136,35 @@ fn has_database(files: &[HostFile], epoch: u64, behind: u64) -> bool
     false
 }
 
-/// Whether the databases of an epoch and of the one behind it are there.
-fn has_both(files: &[HostFile], epoch: u64) -> bool
-    ensures { IsTrue result ↔ HasBoth files.now epoch }
+/// The first of the databases of an epoch and of the one behind it that isn't there, if one isn't.
+fn first_lacking(files: &[HostFile], epoch: u64) -> Option<u64>
+    ensures { MatchOption result (HasBoth files.now epoch) (IsFirstLacking files.now epoch) }
 {
-    has_database(files, epoch, 0) && has_database(files, epoch, 1)
+    if !has_database(files, epoch, 0) {
+        Some(epoch)
+    } else if !has_database(files, epoch, 1) {
+        Some(epoch.saturating_add(1))
+    } else {
+        None
+    }
+}
+
+fn greater(one: u64, other: u64) -> u64
+    ensures { result ≡ max one other }
+{
+    if one < other { other } else { one }
+}
+
+/// The greatest epoch of these files, of which there is one.
+fn greatest_of(files: &[StateFile]) -> u64
+    requires { files.now ≢ [] }
+    ensures { IsGreatest files.now result }
+{
+    let mut greatest = 0;
+    for file in files {
+        greatest = greater(greatest, file.epoch);
+    }
+    greatest
 }
 
 /// What a start of this host finds, where the folder has these files and these are the bytes of its states.
@@ -156,13 +181,13 @@ pub fn find(
         return Ok(Found::Nothing);
     }
     let Some((head, machine)) = best_of(alloc, states)? else {
-        return Err(FolderFault::Damaged);
+        return Err(FolderFault::Damaged(greatest_of(states)));
     };
     if let Some(fault) = other_host(which, &head) {
         return Err(fault);
     }
-    if !has_both(files, head.epoch) {
-        return Err(FolderFault::NoStore);
+    if let Some(lacking) = first_lacking(files, head.epoch) {
+        return Err(FolderFault::NoStore(lacking));
     }
     let has_before = has_database(files, head.epoch.saturating_sub(1), 0);
     Ok(Found::Whole(Start {

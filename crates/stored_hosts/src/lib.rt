@@ -11,7 +11,7 @@ mod numbers;
 mod surveying;
 mod system;
 
-pub use committing::commit_state;
+pub use committing::{commit_bytes, commit_state};
 pub use fault::FolderFault;
 pub use finding::{Found, Start, StateFile, WhichHost, find};
 pub use folder::Folder;

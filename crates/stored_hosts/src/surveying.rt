@@ -15,6 +15,18 @@ fn is_state(kind: FileKind) -> bool
     matches!(kind, FileKind::State)
 }
 
+/// The bytes of a state.
+fn state_in<F: Folder>(folder: &F, file: HostFile) -> Result<StateFile, FolderFault>
+    ensures read { IfOk result (λ state. (state.epoch ≡ file.epoch) × F.holds folder.now file state.bytes.items) }
+    ensures fails { IfErr result (IsUnread F.holds F.unread folder.now) }
+{
+    let epoch = file.epoch;
+    match folder.read(file) {
+        Ok(bytes) => Ok(StateFile { epoch, bytes }),
+        Err(why) => Err(FolderFault::Unread(epoch, why)),
+    }
+}
+
 /// The bytes of those of these files that are states, in their order.
 fn states_of<F: Folder>(
     alloc: Global,
@@ -27,11 +39,7 @@ fn states_of<F: Folder>(
     let mut states = Vec::new(alloc);
     for file in files {
         if is_state(file.kind) {
-            let bytes = folder.read(*file)?;
-            states.push(StateFile {
-                epoch: file.epoch,
-                bytes,
-            })?;
+            states.push(state_in(folder, *file)?)?;
         }
     }
     Ok(states)

@@ -1,6 +1,8 @@
 -- A node in memory beside the records of its files.
-use Rattle.std.proofs.Common.{◌≡◌, ◌∙◌, ℕ, Bool, false, IsTrue, Option, Some, None, Result, Ok, Err, IfOk, OnOk, refl}
+use Rattle.std.proofs.Common.{◌≡◌, ◌∙◌, ℕ, Bool, false, IsTrue, Option, Result, Ok, Err, IfOk, OnOk, refl}
 use Rattle.std.proofs.Common.{sym, subst}
+use Rattle.std.specs.Prelude.{MatchResult}
+use Rattle.std.proofs.lemmas.Result.{IfOk-weaker}
 use Rattle.std.proofs.Math.Logic.{∥∥₁_map}
 use Rattle.acceptor.specs.Content.{Content, IsSound, no_content}
 use Rattle.acceptor.specs.Found.{Findable, FindsSame, Holds}
@@ -11,7 +13,7 @@ use Rattle.node.specs.View.{Standing, View, started}
 use Rattle.node.specs.View.Standing.{Running}
 use Rattle.node.specs.declared.parts.Parts.{Parts}
 use Rattle.seats.specs.Fresh.{IsFreshAt}
-use Rattle.stored_nodes.specs.Starts.{ComesOfStart, HasStarted, HasStartedBeside}
+use Rattle.stored_nodes.specs.Starts.{ComesOfStart, ComesOfUse, HasStarted, HasStartedBeside}
 use Rattle.stored_nodes.proofs.Started.{comes_of_start}
 
 -- records in memory hold what they are
@@ -54,6 +56,7 @@ started_beside who stands honest before held found count number is_new node copy
       id = id;
       members = members;
       up = up;
+      started_over = (copy, over);
       over = λ is.
           let it = opened is in
           let equal = copied is it.0 it.1 in (
@@ -66,22 +69,27 @@ started_beside who stands honest before held found count number is_new node copy
       sound = λ is c holds. sound is c (earlier is c holds);
     }
 
--- it has started, whatever was found
-pub beside_anyhow : {N : Type 0} {who : N → Who} {stands : N → Standing → Type 0} {honest : Bool} {held : Findable} {found : Bool → Content → Type 0} {count number : ℕ} {is_new : Bool} {node : N}
-    → HasStartedBeside who stands honest held found count number is_new node → HasStartedBeside who stands honest held (λ _ _. Unit {0}) count number is_new node
-beside_anyhow it = record {
+-- what has started has so likewise where more may be found
+pub beside_more : {N S E : Type 0} (who : N → Who) (stands : N → Standing → Type 0) (honest : S → Bool) (held : S → Findable) (found other : Bool → Content → Type 0) (count number : ℕ) (is_new : Bool) (r : Result (N × S) E)
+    → ((c : Content) → found is_new c → other is_new c)
+    → IfOk r (λ x. HasStartedBeside who stands (honest x.1) (held x.1) found count number is_new x.0) → IfOk r (λ x. HasStartedBeside who stands (honest x.1) (held x.1) other count number is_new x.0)
+beside_more who stands honest held found other count number is_new (Ok x) more it = record {
   id = it.id;
   members = it.members;
   up = it.up;
-  over = λ is. let had = it.over is in (had.0, (had.1.0, tt), had.2, had.3);
+  started_over = it.started_over;
+  over = λ is. let had = it.over is in (had.0, (had.1.0, more had.0 had.1.1), had.2, had.3);
   same = it.same;
   sound = it.sound;
 }
+beside_more who stands honest held found other count number is_new (Err fault) more it = tt
 
 -- what its use promises of it comes of its start
-pub comes_of_beside : {N A : Type 0} {who : N → Who} {stands : N → Standing → Type 0} {honest : Bool} {held : Findable} {found : Bool → Content → Type 0} {count number : ℕ} {is_new : Bool} {node : N} (comes : Option Content → A → Type 0) (answer : A)
-    → HasStartedBeside who stands honest held found count number is_new node → ((IsTrue honest → ⊥) → comes None answer) → (IsTrue honest → (c : Content) → stands node (Running (started c)) → comes (Some c) answer)
-    → ComesOfStart comes found is_new answer
-comes_of_beside {who = who} {stands = stands} {honest = honest} {found = found} {count = count} {number = number} {is_new = is_new} {node = node} comes answer it lies tells =
-    let has : HasStarted who (λ _. honest) stands found count number is_new node = record { id = it.id; members = it.members; up = it.up; over = λ is. let had = it.over is in (had.0, had.1, had.3) } in
-    comes_of_start comes answer has lies tells
+pub comes_of_beside : {N S A E : Type 0} (who : N → Who) (stands : N → Standing → Type 0) (honest : S → Bool) (held : S → Findable) (found : Bool → Content → Type 0) (count number : ℕ) (is_new : Bool) (comes : Option Content → A → Type 0)
+    (started : Result (N × S) E) (result : Result A E) → IfOk started (λ x. HasStartedBeside who stands (honest x.1) (held x.1) found count number is_new x.0)
+    → MatchResult started (λ x. IfOk result (ComesOfUse stands (honest x.1) comes x.0)) (λ fault. result ≡ Err fault) → IfOk result (ComesOfStart comes found is_new)
+comes_of_beside who stands honest held found count number is_new comes (Ok x) result it used =
+    IfOk-weaker result _ _ (λ answer came.
+    let has : HasStarted who (λ _. honest x.1) stands found count number is_new x.0 = record { id = it.id; members = it.members; up = it.up; over = λ is. let had = it.over is in (had.0, had.1, had.3) } in
+    comes_of_start comes answer has came.0 came.1) used
+comes_of_beside who stands honest held found count number is_new comes (Err fault) result it is = subst (λ r. IfOk r (ComesOfStart comes found is_new)) (sym is) tt

@@ -1,9 +1,10 @@
 -- What opening files tells of them, and what stays of files that are only read.
-use Rattle.std.specs.Prelude.{◌≡◌, ◌⊎◌, ℕ, Bool, true, false, IsTrue, List, Option, Some, None, Result, Ok, Err}
+use Rattle.std.specs.Prelude.{◌≡◌, ◌⊎◌, ◌==◌, if◌then◌else◌, ℕ, Bool, true, false, IsTrue, List, Option, Some, None, Result, Ok, Err}
 use Rattle.acceptor_store.specs.declared.OpenFault.{OpenFault}
 use Rattle.acceptor_store.specs.declared.OpenFault.TheVariants as opening
 use Rattle.acceptor_store.specs.declared.owned.OwnerFault.{OwnerFault}
 use Rattle.acceptor_store.specs.declared.owned.OwnerFault.TheVariants as owner
+use Rattle.acceptor_store_parts.specs.declared.owner.Owner.{Owner}
 use Rattle.log_ties.specs.declared.tie.Loss.{Loss}
 use Rattle.proposer.specs.declared.fault.NodeFault.{NodeFault}
 use Rattle.proposer.specs.declared.fault.NodeFault.TheVariants as node
@@ -87,3 +88,19 @@ StaysFile g old new =
 -- so of a log and of a database
 abbrev pub StayFiles : {D : Type 0} → disk.Ghosts D → Files D → Files D → Type 0
 StayFiles g old new = StaysFile g old.log new.log × StaysFile g old.db new.db
+
+-- why files of another owner aren't a node's: that is another node, or this one as one of other members
+abbrev pub other_owner : ℕ → Owner → OwnerFault
+other_owner id other = if other.node == id then owner.OtherMembers other else owner.OtherNode other
+
+-- why a new node doesn't begin over files of this state: they hold something, or aren't its own; none where it does
+abbrev pub refusal_of : ℕ → FilesState → Option StartFault
+refusal_of id Fresh = None
+refusal_of id Begun = None
+refusal_of id Used = Some start.NotFresh
+refusal_of id Unowned = Some start.NotFresh
+refusal_of id Foreign = Some (start.Unopened (owner.Open opening.Foreign))
+refusal_of id Locked = Some start.InUse
+refusal_of id (OtherNode other) = Some (start.Unopened (other_owner id other))
+refusal_of id (Lost loss) = Some (start.Lost loss)
+refusal_of id (Unusable why) = Some (start.Unusable why)

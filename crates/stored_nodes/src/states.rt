@@ -1,6 +1,7 @@
 //! What a node's files are, found out without a change of them.
 
-ghost use Rattle.std.specs.Prelude.{◌≡◌, ◌<◌, ◌&&◌, IfOk, IsOkAnd, None, OnErr, Some, false, true};
+ghost use Rattle.std.specs.Prelude.{◌≡◌, ◌<◌, ◌&&◌, IfOk, IsOkAnd, MatchResult, None, OnErr, Some};
+ghost use Rattle.std.specs.Prelude.{false, true};
 ghost use Rattle.ballots.specs.Members.{member_count};
 ghost use Rattle.log_ties.specs.Ties.{IsLost};
 ghost use Rattle.log_ties.specs.declared.tie.Loss.{Loss};
@@ -9,9 +10,11 @@ ghost use Rattle.sqlite_wal.specs.Reads.{AreClean};
 ghost use Rattle.stored_nodes.specs.declared.start.FileFault.TheVariants.{Failed};
 ghost use Rattle.stored_nodes.specs.declared.states.FilesState.TheVariants.{Unusable};
 ghost use Rattle.stored_nodes.specs.declared.states.Told.TheVariants.{State};
-ghost use Rattle.stored_nodes.specs.States.{IsTold, IsToldLost, StayFiles, state_told, told_open, told_owned};
+ghost use Rattle.stored_nodes.specs.States.{IsTold, IsToldLost, StayFiles, other_owner, refusal_of, state_told};
+ghost use Rattle.stored_nodes.specs.States.{told_open, told_owned};
 ghost use Rattle.stored_nodes.specs.States.{told_owner, told_start, told_unowned, told_unread};
 
+use crate::connection::refused;
 use crate::copies::begins_by_copy;
 use crate::fault::StoreFault;
 use crate::owned::Claim;
@@ -222,4 +225,31 @@ pub fn state_unopened(fault: StartFault) -> Result<FilesState, AllocError>
     ensures memory { OnErr result (state_told (told_start fault) ≡ None) }
 {
     state_told(told_start(fault))
+}
+
+/// Why files of this owner aren't this node's.
+fn other_owner(owner: Owner, id: NodeId) -> OwnerFault
+    ensures { result ≡ other_owner id owner }
+{
+    if owner.node == id {
+        OwnerFault::OtherMembers(owner)
+    } else {
+        OwnerFault::OtherNode(owner)
+    }
+}
+
+/// Refuses files of this state to a new node that goes on over what an earlier start left: if they hold anything, or
+/// aren't this node's.
+pub(crate) fn refused_as_used(state: FilesState, id: NodeId) -> Result<(), StartFault>
+    ensures { MatchResult result (λ _. refusal_of id state ≡ None) (λ fault. refusal_of id state ≡ Some fault) }
+{
+    match state {
+        FilesState::Fresh | FilesState::Begun => Ok(()),
+        FilesState::Used | FilesState::Unowned => Err(StartFault::NotFresh),
+        FilesState::Foreign => Err(refused(OpenFault::Foreign)),
+        FilesState::Locked => Err(StartFault::InUse),
+        FilesState::OtherNode(owner) => Err(StartFault::Unopened(other_owner(owner, id))),
+        FilesState::Lost(loss) => Err(StartFault::Lost(loss)),
+        FilesState::Unusable(why) => Err(StartFault::Unusable(why)),
+    }
 }

@@ -3,7 +3,7 @@
 use crate::fault::StoreFault;
 use crate::own_file::length_of;
 use crate::start::StartFault;
-use crate::states::{FilesState, state_of_files, state_unopened};
+use crate::states::{FilesState, refused_as_used, state_of_files, state_unopened};
 use crate::ties::Lengths;
 use ballots::NodeId;
 use log_ties::Loss;
@@ -67,15 +67,30 @@ fn state_without(rt: &HostRuntime, log: &str) -> Result<Option<FilesState>, Allo
     }
 }
 
+/// The state of this node's database of a path and its log, where one of them is there.
+fn state_of(rt: &HostRuntime, path: &str, id: NodeId) -> Result<Option<FilesState>, AllocError> {
+    let log = format!(in rt.alloc(); "{path}-wal")?;
+    match length_of(rt, path) {
+        Ok(None) => state_without(rt, log.as_str()),
+        Ok(Some(length)) => Ok(Some(state_at(rt, path, log.as_str(), id, length)?)),
+        Err(fault) => Ok(Some(state_unopened(fault)?)),
+    }
+}
+
 /// The state of the files of a node in the folder, where its database or its log is there.
 fn state_in(rt: &HostRuntime, folder: &str, id: NodeId) -> Result<Option<FilesState>, AllocError> {
     let number = id.number();
     let path = format!(in rt.alloc(); "{folder}/node-{number}.db")?;
-    let log = format!(in rt.alloc(); "{folder}/node-{number}.db-wal")?;
-    match length_of(rt, path.as_str()) {
-        Ok(None) => state_without(rt, log.as_str()),
-        Ok(Some(length)) => Ok(Some(state_at(rt, path.as_str(), log.as_str(), id, length)?)),
-        Err(fault) => Ok(Some(state_unopened(fault)?)),
+    state_of(rt, path.as_str(), id)
+}
+
+/// Refuses the database of a path and its log where they hold anything, or aren't this node's as one of any members.
+/// They aren't refused where they aren't there, or where they hold nothing, as those of a start that was stopped. They
+/// stay as they are.
+pub fn refuse_used(rt: &HostRuntime, path: &str, id: NodeId) -> Result<(), StartFault> {
+    match state_of(rt, path, id)? {
+        Some(state) => refused_as_used(state, id),
+        None => Ok(()),
     }
 }
 

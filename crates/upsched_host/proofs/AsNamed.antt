@@ -3,14 +3,16 @@ use Rattle.std.proofs.Common.{◌≡◌, ◌∙◌, ◌⊎◌, inl, inr, ◌≤�
 use Rattle.std.proofs.Common.{refl, sym, ap, subst}
 use Rattle.std.proofs.Common.{arith}
 use Rattle.std.specs.Prelude.{decimal}
+use Rattle.std.proofs.lemmas.Bool.{cases_lt}
 use Rattle.std.proofs.lemmas.Fmt.{decimal_injective}
-use Rattle.acceptor.specs.Content.{no_content}
+use Rattle.acceptor.specs.Content.{Content, no_content}
 use Rattle.ballots.specs.Members.{member_count}
 use Rattle.ballots.specs.declared.members.Members.{Members}
 use Rattle.ballots.specs.declared.members.Members.TheVariants.{Three, Five}
 use Rattle.hosts.specs.Hosts.{AreMembers, StandsAs, member_of, places_of}
+use Rattle.hosts.specs.Keeping.{HaveKept}
 use Rattle.hosts.specs.New.{ArePlaces, IsNoHost}
-use Rattle.hosts.specs.Views.{opening}
+use Rattle.hosts.specs.Views.{AreBegun, opening}
 use Rattle.hosts.specs.declared.fault.HostFault.{HostFault}
 use Rattle.hosts.specs.declared.fault.HostFault.TheVariants as fault
 use Rattle.hosts.specs.declared.host.Host.{Host}
@@ -20,7 +22,7 @@ use Rattle.host_service.specs.Replying.{host_of}
 use Rattle.host_service.specs.Serving.{NeverLie}
 use Rattle.host_service.specs.declared.service.HostServer.{HostServer}
 use Rattle.upsched_ends.specs.Members.{digit}
-use Rattle.upsched_host.specs.Named.{IsNewServer, NameHost, NameMember, NameNone, SayPlaces, Who}
+use Rattle.upsched_host.specs.Named.{BeginEmpty, IsNewServer, NameHost, NameMember, NameNone, SayPlaces, Who}
 use Rattle.upsched_host.specs.declared.named.NoHost.TheVariants.{Places}
 use Rattle.upsched_host.specs.declared.named.HostWords.{HostWords}
 use Rattle.upsched_host.specs.declared.named.TheConstants.{PLACES_NOT_GIVEN}
@@ -54,14 +56,31 @@ as_named words who other this that =
 
 -- nodes over new records in memory are of a new host
 pub new_server : {O N : Type 0} {g : Ghosts O N} {h : Nodes N} (server : HostServer O N g h) (host : Host O N g h) (who : Who) → host_of server ≡ host → member_of host ≡ (who.0, member_count who.1) → places_of host ≡ who.2 → AreMembers host
-    → StandsAs host (opening (λ e. no_content)) → NeverLie h → IsNewServer server who
-new_server {O} {N} {g} {h} server host who is member places are stands never = record {
+    → HaveKept host → StandsAs host (opening (λ e. no_content)) → NeverLie h → IsNewServer server who
+new_server {O} {N} {g} {h} server host who is member places are kept stands never = record {
   member = ap (λ (x : Host O N g h). member_of x) is ∙ member;
   places = ap (λ (x : Host O N g h). places_of x) is ∙ places;
   are = subst (λ (x : Host O N g h). AreMembers x) (sym is) are;
+  kept = subst (λ (x : Host O N g h). HaveKept x) (sym is) kept;
   stands = subst (λ (x : Host O N g h). StandsAs x (opening (λ e. no_content))) (sym is) stands;
   never = never;
 }
+
+-- contents over which nodes begin that hold nothing
+pub all_empty : (contents : ℕ → Content) → AreBegun BeginEmpty 1 2 contents → contents ≡ (λ e. no_content)
+all_empty contents begun = λ i e. each e i
+  where
+    each : (e : ℕ) → contents e ≡ no_content
+    each e = elim (cases_lt e 1) [
+      | inl below ↦ begun.others e (inl below)
+      | inr some ↦ elim (cases_lt 2 e) [
+        | inl beyond ↦ begun.others e (inr beyond)
+        | inr within ↦ begun.begun e some within
+      ]
+    ]
+
+pub stands_empty : {O N : Type 0} {g : Ghosts O N} {h : Nodes N} (host : Host O N g h) (contents : ℕ → Content) → AreBegun BeginEmpty 1 2 contents → StandsAs host (opening contents) → StandsAs host (opening (λ e. no_content))
+stands_empty host contents begun stands = subst (λ (cs : ℕ → Content). StandsAs host (opening cs)) (all_empty contents begun) stands
 
 -- in memory no node fails to open, so where there is no host an epoch can't have so many places
 pub no_host : (places : ℕ) (why : HostFault) → IsNoHost (λ fault. ⊥) places why → ¬ ArePlaces places

@@ -1,9 +1,10 @@
 -- The host that words name.
 use Rattle.std.specs.Prelude.{◌≡◌, ℕ, MatchOption, decimal}
-use Rattle.acceptor.specs.Content.{no_content}
+use Rattle.acceptor.specs.Content.{Content, no_content}
 use Rattle.ballots.specs.Members.{member_count}
 use Rattle.ballots.specs.declared.members.Members.{Members}
 use Rattle.hosts.specs.Hosts.{AreMembers, StandsAs, member_of, places_of}
+use Rattle.hosts.specs.Keeping.{HaveKept}
 use Rattle.hosts.specs.New.{ArePlaces}
 use Rattle.hosts.specs.Views.{opening}
 use Rattle.hosts.specs.declared.opens.Opens.{Ghosts}
@@ -40,10 +41,15 @@ abbrev pub NameNone : HostWords → NoHost → Type 0
 NameNone words Member = (id : ℕ) (count : Members) → ¬ NameMember words id count
 NameNone words Places = ((id : ℕ) × (count : Members) × NameMember words id count) × ((places : ℕ) → SayPlaces words places → ¬ ArePlaces places)
 
+-- nodes begin over records that hold nothing
+abbrev pub BeginEmpty : ℕ → Content → Type 0
+BeginEmpty e c = c ≡ no_content
+
 -- a new host that replies to lines, whose nodes begin over records that hold nothing and never lie
 pub record IsNewServer {O N : Type 0} {g : Ghosts O N} {h : Nodes N} (server : HostServer O N g h) (who : Who) : Type 0 where
   pub member : member_of (host_of server) ≡ (who.0, member_count who.1)
   pub places : places_of (host_of server) ≡ who.2
   pub are : AreMembers (host_of server)
+  pub kept : HaveKept (host_of server)
   pub stands : StandsAs (host_of server) (opening (λ e. no_content))
   pub never : NeverLies (host_of server)

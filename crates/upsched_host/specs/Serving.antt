@@ -14,7 +14,7 @@ use Rattle.host_service.specs.Serving.{ServesAs}
 use Rattle.host_service.specs.Texts.{there_text}
 use Rattle.upsched_ends.specs.declared.status.Status.{Status}
 use Rattle.upsched_ends.specs.declared.status.Status.TheVariants.{Done, Faulted, NotUnderstood}
-use Rattle.upsched_host.specs.Named.{Who}
+use Rattle.upsched_host.specs.Named.{BeginEmpty, Who}
 
 -- the first line of a host
 abbrev pub first_text : Who → List ℕ
@@ -22,7 +22,7 @@ first_text who = there_text who.0 who.1 who.2
 
 -- a new host, whose nodes in memory never fail to open, served an input and an output so, and ended so
 abbrev pub NewServesAs : {I O : Type 0} → Inputs I → Outputs O → Who → BatchedEnd → I → O → I → O → Type 0
-NewServesAs input output who end i o i' o' = ServesAs input output (λ fault. ⊥) (member_count who.1) who.0 who.2 (opening (λ e. no_content)) end i o i' o'
+NewServesAs input output who end i o i' o' = ServesAs input output BeginEmpty (λ fault. ⊥) (member_count who.1) who.0 who.2 (opening (λ e. no_content)) end i o i' o'
 
 -- a new host told who it is and served, or it couldn't tell even that
 abbrev pub RunsHost : {I O : Type 0} → Inputs I → Outputs O → Who → Status → I → O → I → O → Type 0

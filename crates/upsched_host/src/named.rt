@@ -1,13 +1,13 @@
 //! The host that words name.
 
-ghost use Rattle.std.specs.Prelude.{◌≡◌, ◌⊎◌, ◌≤◌, ◌<◌, ◌^◌, ℕ, MatchOption, MatchResult};
+ghost use Rattle.std.specs.Prelude.{◌≡◌, ◌⊎◌, ◌↔◌, ◌≤◌, ◌<◌, ◌^◌, ℕ, IsTrue, MatchOption, MatchResult};
 ghost use Rattle.ballots.specs.Members.{member_count};
 ghost use Rattle.hosts.specs.New.{ArePlaces};
 ghost use Rattle.upsched_host.specs.Named.{IsNewServer, NameHost, NameNone, SayPlaces};
 
 use ballots::{Members, NodeId};
 use host_service::{HostServer, number_in};
-use hosts::{Host, PlainOpens};
+use hosts::{Host, MOST_EPOCH_PLACES, PlainOpens};
 use std::alloc::Global;
 use upsched_node::{NO_MEMBER, member_of};
 
@@ -76,12 +76,16 @@ pub(crate) fn new_server(
     }
 }
 
-/// The host that the words name, which is new, and who it is.
-pub(crate) fn named_host(
-    alloc: Global,
-    words: &HostWords<'_>,
-) -> Result<(Who, HostServer<PlainOpens>), NoHost>
-    ensures { MatchResult result (λ new. NameHost words.now new.0 × IsNewServer new.1 new.0) (NameNone words.now) }
+/// Whether an epoch may have so many places that count.
+fn are_places(places: u64) -> bool
+    ensures { IsTrue result ↔ ArePlaces places }
+{
+    1 <= places && places <= MOST_EPOCH_PLACES
+}
+
+/// The host that the words name.
+fn named_who(words: &HostWords<'_>) -> Result<Who, NoHost>
+    ensures { MatchResult result (NameHost words.now) (NameNone words.now) }
 {
     let Some((id, members)) = member_of(words.number, words.members) else {
         return Err(NoHost::Member);
@@ -89,6 +93,20 @@ pub(crate) fn named_host(
     let Some(places) = places_in(words) else {
         return Err(NoHost::Places);
     };
+    if !are_places(places) {
+        return Err(NoHost::Places);
+    }
+    Ok((id, members, places))
+}
+
+/// The same, and the host itself, which is new.
+pub(crate) fn named_host(
+    alloc: Global,
+    words: &HostWords<'_>,
+) -> Result<(Who, HostServer<PlainOpens>), NoHost>
+    ensures { MatchResult result (λ new. NameHost words.now new.0 × IsNewServer new.1 new.0) (NameNone words.now) }
+{
+    let (id, members, places) = named_who(words)?;
     let Some(server) = new_server(alloc, id, members, places) else {
         return Err(NoHost::Places);
     };

@@ -1,4 +1,4 @@
-use Rattle.std.proofs.Common.{◌≡◌, refl, subst}
+use Rattle.std.proofs.Common.{subst}
 use Rattle.upsched_host.specs.Named.{Who}
 use Rattle.upsched_host.specs.Serving.{RunsHost}
 use Rattle.upsched_host.proofs.AsNamed.{as_named}

@@ -1,10 +1,8 @@
-use Rattle.std.proofs.Common.{◌≡◌, ℕ, refl, rules}
-use Rattle.acceptor.specs.Content.{no_content}
+use Rattle.std.proofs.Common.{◌≡◌, refl, rules}
 use Rattle.ballots.specs.Members.{member_count}
-use Rattle.hosts.specs.Hosts.{AreMembers, StandsAs, member_of, places_of}
+use Rattle.hosts.specs.Hosts.{AreMembers, member_of, places_of}
 use Rattle.hosts.specs.New.{ArePlaces}
-use Rattle.hosts.specs.Views.{opening}
-use Rattle.upsched_host.proofs.AsNamed.{new_server}
+use Rattle.upsched_host.proofs.AsNamed.{new_server, stands_empty}
 use Rattle.upsched_host.proofs.named.new_server.Goals as goal
 
 pub returns-in-Ok : goal.returns-in-Ok
@@ -14,5 +12,8 @@ returns-in-Ok c =
     let member : member_of host ≡ (c.args.id, member_count c.args.members) = search rules in
     let places : places_of host ≡ c.args.places = search rules in
     let members : AreMembers host = search rules in
-    let stands : StandsAs host (opening (λ e. no_content)) = c.in-Ok.ensures.opens (λ e seat at. refl) in
-    (are, new_server c.new-in-Ok.result host (c.args.id, c.args.members, c.args.places) c.new-in-Ok.ensures member places members stands (λ node. refl))
+    let opened = c.in-Ok.ensures.opens (λ e seat at. refl) in (
+      are,
+      new_server c.new-in-Ok.result host (c.args.id, c.args.members, c.args.places) c.new-in-Ok.ensures member places members c.in-Ok.ensures.kept
+          (stands_empty host opened.0 opened.1 opened.2) (λ node. refl),
+    )

@@ -1,4 +1,4 @@
-use Rattle.std.proofs.Common.{ap}
+use Rattle.std.proofs.Common.{ap, refl}
 use Rattle.acceptor.specs.Content.{no_content}
 use Rattle.node.specs.Calls.{Who}
 use Rattle.hosts.proofs.opens.NewNodesOpens.open.Goals as goal
@@ -8,5 +8,5 @@ returns-clause-opened g c = record {
   id = ap (λ (w : Who). w.id) c.new.ensures.who;
   members = ap (λ (w : Who). w.members) c.new.ensures.who;
   up = ap (λ (w : Who). w.down) c.new.ensures.who;
-  begins = λ honest. c.new.ensures.stands no_content c.new_records-records.ensures.holds;
+  begins = λ honest. (no_content, refl, c.new.ensures.stands no_content c.new_records-records.ensures.holds);
 }

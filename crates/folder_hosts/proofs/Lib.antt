@@ -1,0 +1,4 @@
+mod Begun
+mod Looked
+mod Made
+mod Told

@@ -1,0 +1,5 @@
+pub mod Databases
+pub mod Faults
+pub mod Folders
+pub mod Starting
+pub mod System

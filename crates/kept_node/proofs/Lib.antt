@@ -1,0 +1,4 @@
+mod Once
+mod Calling
+mod Noting
+pub mod Callers
