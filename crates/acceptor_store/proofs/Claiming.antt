@@ -6,6 +6,7 @@ use Rattle.acceptor_store.proofs.Words.{HoldsNoneOwned, Numbers, OpenFault, Fore
 use Rattle.acceptor_store.proofs.Words.{OtherNode, OtherMembers, FailsAnew, FindsFor, IsDue}
 use Rattle.acceptor_store.specs.Owning.{Claims, IsToldOther, Names}
 use Rattle.acceptor_store.specs.declared.OpenFault.TheVariants.{Refused, Broken, OutOfMemory}
+use Rattle.acceptor_store.proofs.CountsKnown.{names_read}
 
 module _ {S : Type 0} (g : Ghosts S) (wanted : Owner) (conn : Held S) where
   pub claimed_tables : (read : Result (Held S × Owner × Numbers) (OpenFault × S)) (it : Result (Held S × Numbers) (OwnerFault × S)) → Claims g wanted read it
@@ -35,12 +36,18 @@ module _ {S : Type 0} (g : Ghosts S) (wanted : Owner) (conn : Held S) where
   claimed_left (Err unread) (Ok it) claims leaves left = absurd claims
   claimed_left (Err unread) (Err told) claims leaves left = subst (λ (s : S). IsClean (g.view s) → (db : Trees) → g.recovers s db → (state g conn).may_leave db) (sym claims.1) left
 
+  -- what a crash leaves of tables that are the owner's
+  pub claimed_leaves : (read : Result (Held S × Owner × Numbers) (OpenFault × S)) (it : Held S × Numbers) → Claims g wanted read (Ok it)
+      → IfOk read (λ r. HasCleanDisk (state g r.0) → (db : Trees) → (state g r.0).may_leave db → (state g conn).may_leave db) → HasCleanDisk (state g it.0) → (db : Trees) → (state g it.0).may_leave db → (state g conn).may_leave db
+  claimed_leaves (Ok read) it claims leaves = subst (λ (c : Held S). HasCleanDisk (state g c) → (db : Trees) → (state g c).may_leave db → (state g conn).may_leave db) (sym claims.1) leaves
+  claimed_leaves (Err unread) it claims leaves = absurd claims
+
   told_other : (is_new : Bool) (found : Owner) (fault : OwnerFault) → (state g conn).now.schema ≡ schema_of Third → (numbers : Numbers) (new : Held S) → FindsFor g found conn new numbers → IsToldOther wanted found fault → IsDue g wanted is_new conn fault
   told_other is_new found (OtherNode other) schema numbers new finds it =
-      let named : Names g conn other = subst (Names g conn) (sym it.0) (schema, finds.1.1.owned) in
+      let named : Names g conn other = subst (Names g conn) (sym it.0) (schema, names_read found numbers.count (state g conn).committed.trees finds.0 finds.1.1) in
       (named, subst (λ (o : Owner). o.node ≢ wanted.node) (sym it.0) it.1)
   told_other is_new found (OtherMembers other) schema numbers new finds it =
-      let named : Names g conn other = subst (Names g conn) (sym it.0) (schema, finds.1.1.owned) in
+      let named : Names g conn other = subst (Names g conn) (sym it.0) (schema, names_read found numbers.count (state g conn).committed.trees finds.0 finds.1.1) in
       let differs = subst (λ (o : Owner). (o.node ≡ wanted.node) × (o.members ≢ wanted.members)) (sym it.0) (it.1, it.2) in
       (named, differs.0, differs.1)
   told_other is_new found Blank schema numbers new finds other = absurd other

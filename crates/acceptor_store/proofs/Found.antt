@@ -3,7 +3,7 @@ use Rattle.std.proofs.Common.{◌≡◌, inl, inr, IsTrue, Option, Some, Err, sy
 use Rattle.acceptor_store.proofs.Words.{∥∥₁_map, Ghosts, Trees, Database, HasCleanDisk, Survives, Held, state, Content}
 use Rattle.acceptor_store.proofs.Words.{Write, after_write, IsHarmless, Findable, Holds, AddsNothing, AddsOnly}
 use Rattle.acceptor_store.proofs.Words.{FindsSame, Keeps, HasMade, MayHaveMade, RecordsFault, Owner, AreTablesFor}
-use Rattle.acceptor_store.proofs.Words.{ServesFor, MayHaveWritten, content_once, MayFindIn}
+use Rattle.acceptor_store.proofs.Words.{ServesFor, content_once, MayFindIn}
 use Rattle.acceptor.specs.declared.records.RecordsFault.TheVariants.{Refused, Broken, OutOfMemory}
 use Rattle.acceptor_store.proofs.Same.{which}
 
@@ -40,17 +40,17 @@ module _ {S : Type 0} (g : Ghosts S) (settled : (s : S) (db : Trees) → IsTrue 
       (∣ subst (MayFindIn g owner new) same (found_it g settled stays owner new now serves_now) ∣₁, λ d it. found_is g settled stays owner new now serves_now d it ∙ same)
 
   -- a write in doubt
-  pub may_hold : (w : Write) → HasCleanDisk (state g new) → Survives (state g old) (state g new) (MayHaveWritten (state g old) w) → MayHaveMade (MayFindIn g owner old) (MayFindIn g owner new) w
+  pub may_hold : (w : Write) → HasCleanDisk (state g new) → Survives (state g old) (state g new) (λ db. AreTablesFor owner db (after_write was (Some w))) → MayHaveMade (MayFindIn g owner old) (MayFindIn g owner new) w
   may_hold w clean survives c holds d known = which c (after_write c (Some w)) d (∥∥₁_map known (λ it. elim (survives.crash clean it.0 it.1) [
     | inl before ↦ inl (holds.1 d ∣ (it.0, before, it.2) ∣₁)
-    | inr wrote ↦ inr (content_once owner it.0 d (after_write was (Some w)) it.2 (wrote owner was serves) ∙ ap (λ (x : Content). after_write x (Some w)) (served c holds))
+    | inr wrote ↦ inr (content_once owner it.0 d (after_write was (Some w)) it.2 wrote ∙ ap (λ (x : Content). after_write x (Some w)) (served c holds))
   ]))
 
   -- it adds nothing but its own content
-  pub only_adds : (w : Write) → HasCleanDisk (state g new) → Survives (state g old) (state g new) (MayHaveWritten (state g old) w) → AddsOnly (MayFindIn g owner old) (MayFindIn g owner new) w
+  pub only_adds : (w : Write) → HasCleanDisk (state g new) → Survives (state g old) (state g new) (λ db. AreTablesFor owner db (after_write was (Some w))) → AddsOnly (MayFindIn g owner old) (MayFindIn g owner new) w
   only_adds w clean survives d known = ∥∥₁_map known (λ it. elim (survives.crash clean it.0 it.1) [
     | inl before ↦ inl ∣ (it.0, before, it.2) ∣₁
-    | inr wrote ↦ inr (was, found_it g settled stays owner old was serves, content_once owner it.0 d (after_write was (Some w)) it.2 (wrote owner was serves))
+    | inr wrote ↦ inr (was, found_it g settled stays owner old was serves, content_once owner it.0 d (after_write was (Some w)) it.2 wrote)
   ])
 
   -- a call that left it open and changed nothing

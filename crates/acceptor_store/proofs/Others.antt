@@ -2,11 +2,11 @@
 use Rattle.std.proofs.Common.{◌≡◌, ◌≢◌, ◌⊎◌, inl, inr, ℕ, true, false, Bool, List, [], ◌∷◌, Option, Some, None, IsSome}
 use Rattle.std.proofs.Common.{IsTrue, arith, length, refl, slice_get, sym, subst, ap, ◌∙◌}
 use Rattle.std.specs.Prelude.{codes}
-use Rattle.acceptor_store.proofs.Words.{AreTablesFor, Blank, Content, FailsAnew, First, Foreign, Ghosts, HadAs}
+use Rattle.acceptor_store.proofs.Words.{AreOwnedBy, Blank, Content, FailsAnew, First, Foreign, Ghosts, HadAs}
 use Rattle.acceptor_store.proofs.Words.{HadBefore}
 use Rattle.acceptor_store.proofs.Words.{HasFacts, Held, IsBroken, IsDue, IsDueBefore, IsRefused, IsRefusedFor}
 use Rattle.acceptor_store.proofs.Words.{IsUnowned}
-use Rattle.acceptor_store.proofs.Words.{Names, Open, OtherMembers, OtherNode, OwnedBy, Owner, OwnerFault}
+use Rattle.acceptor_store.proofs.Words.{Names, NamesOwner, Open, OtherMembers, OtherNode, Owner, OwnerFault}
 use Rattle.acceptor_store.proofs.Words.{Third, Trees, Unowned, Version, blank_schema, owner_bytes, schema_of}
 use Rattle.acceptor_store.proofs.Words.{state}
 use Rattle.acceptor_store.specs.Owning.{FailsToRead, IsOthers, IsRefusedBefore, IsToldOther}
@@ -17,6 +17,8 @@ use Rattle.acceptor_store_parts.specs.Tables.{ballot_table, learned_table, vote_
 use Rattle.ballots.specs.Members.{member_count}
 use Rattle.ballots.specs.declared.members.Members.{Members}
 use Rattle.ballots.specs.declared.members.Members.TheVariants.{Three, Five}
+use Rattle.acceptor_store.proofs.CountsKnown.{names_owned}
+use Rattle.sqlite.specs.Order.{Row}
 use Rattle.sqlite.specs.Schema.{Schema}
 use Rattle.sqlite.specs.Table.{Table}
 use Rattle.sqlite_schema.specs.Names.{same_name, table_named}
@@ -92,13 +94,18 @@ same_count Three Five is = absurd (cc (is))
 same_count Five Three is = absurd (cc (is))
 same_count Five Five is = refl
 
-one_owner : (a b : Owner) (db : Trees) → OwnedBy a db → OwnedBy b db → a ≡ b
-one_owner a b db is also =
-    let rows : fact_row (0, owner_bytes a) ∷ [] ≡ fact_row (0, owner_bytes b) ∷ [] = cc (is, also) in
+one_row : (a b : Owner) (more less : List Row) → fact_row (0, owner_bytes a) ∷ more ≡ fact_row (0, owner_bytes b) ∷ less → a ≡ b
+one_row a b more less rows =
     let node : a.node ≡ b.node = cc (rows) in
     let count : member_count a.members ≡ member_count b.members = cc (rows) in
     let members = same_count a.members b.members count in
     λ i. record { node = node i; members = members i }
+
+one_owner : (a b : Owner) (db : Trees) → NamesOwner a db → NamesOwner b db → a ≡ b
+one_owner a b db (inl is) (inl also) = one_row a b _ _ (sym is.1.1 ∙ also.1.1)
+one_owner a b db (inl is) (inr also) = one_row a b _ _ (sym is.1.1 ∙ also)
+one_owner a b db (inr is) (inl also) = one_row a b _ _ (sym is ∙ also.1.1)
+one_owner a b db (inr is) (inr also) = one_row a b _ _ (sym is ∙ also)
 
 -- what is told of it
 module _ {S : Type 0} (g : Ghosts S) (wanted other : Owner) (conn : Held S) (others : IsOthers g wanted conn other) where
@@ -106,10 +113,10 @@ module _ {S : Type 0} (g : Ghosts S) (wanted other : Owner) (conn : Held S) (oth
   has = others.3.1.0
 
   same : (o : Owner) → Names g conn o → o ≡ other
-  same o named = one_owner o other (state g conn).committed.trees named.1 others.3.1.1.owned
+  same o named = one_owner o other (state g conn).committed.trees named.1 (names_owned other (state g conn).committed.trees others.3.0 others.3.1.1)
 
-  no_wanted : (c : Content) → AreTablesFor (Some wanted) (state g conn).committed.trees c → ⊥
-  no_wanted c tables = others.1 (sym (same wanted (has, tables.owned)))
+  no_wanted : (c : Content) → AreOwnedBy wanted (state g conn).committed.trees c → ⊥
+  no_wanted c tables = others.1 (sym (same wanted (has, names_owned wanted (state g conn).committed.trees c tables)))
 
   no_other_schema : (s : Schema) → (s ≡ schema_of Third → ⊥) → (state g conn).now.schema ≡ s → ⊥
   no_other_schema s differs is = differs (sym is ∙ has)
@@ -134,10 +141,11 @@ module _ {S : Type 0} (g : Ghosts S) (wanted other : Owner) (conn : Held S) (oth
   abbrev FailsSo : S → Type 0
   FailsSo store = (version : Version) × FailsAnew g version conn store
 
-  fails_for : (store : S) → IsRefusedFor g conn store → FailsSo store
+  fails_for : (store : S) → IsRefusedFor g wanted conn store → FailsSo store
   fails_for store (inl used) = absurd (free used)
   fails_for store (inr (inl further)) = absurd (further.2 has)
-  fails_for store (inr (inr (inl blank))) = absurd (no_blank blank)
+  fails_for store (inr (inr (inl (inl blank)))) = absurd (no_blank blank)
+  fails_for store (inr (inr (inl (inr count)))) = absurd (no_wanted count.1.0 (inr count.1.1))
   fails_for store (inr (inr (inr fails))) = (Third, fails)
 
   fails : (store : S) → IsRefused g conn store → FailsSo store
@@ -147,13 +155,13 @@ module _ {S : Type 0} (g : Ghosts S) (wanted other : Owner) (conn : Held S) (oth
   fails store (inr (inr (inl (inr had)))) = absurd (no_other_schema (schema_of First) not_first had.1.0)
   fails store (inr (inr (inr so))) = so
 
-  fails_before : (store : S) → IsRefusedBefore g conn store → FailsSo store
+  fails_before : (store : S) → IsRefusedBefore g wanted conn store → FailsSo store
   fails_before store (inl refused) = fails store refused
   fails_before store (inr (inl refused)) = fails_for store refused
   fails_before store (inr (inr made)) = absurd (made.0 facts)
 
   pub told : (is_new : Bool) (fault : OwnerFault) (store : S) → IsDue g wanted is_new conn fault
-      → (fault ≡ Open Refused → IsRefusedFor g conn store) → IsToldOther wanted other fault ⊎ FailsToRead g conn (fault, store)
+      → (fault ≡ Open Refused → IsRefusedFor g wanted conn store) → IsToldOther wanted other fault ⊎ FailsToRead g conn (fault, store)
   told is_new Blank store due refused = absurd (no_blank due.0)
   told is_new Unowned store due refused = absurd (not_unowned (subst IsUnowned has due))
   told is_new (OtherNode o) store due refused =
@@ -169,7 +177,7 @@ module _ {S : Type 0} (g : Ghosts S) (wanted other : Owner) (conn : Held S) (oth
   told is_new (Open OutOfMemory) store due refused = inr (inl refl)
 
   pub told_before : (fault : OwnerFault) (store : S) → IsDueBefore g wanted conn fault
-      → (fault ≡ Open Refused → IsRefusedBefore g conn store) → IsToldOther wanted other fault ⊎ FailsToRead g conn (fault, store)
+      → (fault ≡ Open Refused → IsRefusedBefore g wanted conn store) → IsToldOther wanted other fault ⊎ FailsToRead g conn (fault, store)
   told_before Blank store due refused = absurd (no_blank due)
   told_before Unowned store due refused = absurd due
   told_before (OtherNode o) store due refused = told false (OtherNode o) store due (λ no. absurd (cc (no)))

@@ -1,11 +1,12 @@
 -- What is known of a connection that was opened anew.
 use Rattle.std.proofs.Common.{◌≡◌, ◌⊎◌, inl, inr, ℕ, Bool, true, false, ◌==◌, if◌then◌else◌, List, [], ◌∷◌, length, map}
-use Rattle.std.proofs.Common.{Some, None, Option, Ok, Err, Result, IfOk, IfSome, OnOk, IsTrue, refl, sym, ap, subst}
+use Rattle.std.proofs.Common.{Some, None, Option, Ok, Err, Result, IfOk, IfSome, IsSomeAnd, OnOk, IsTrue, refl, sym, ap, subst}
 use Rattle.std.proofs.Common.{subst₂, ◌∙◌, arith}
 use Rattle.acceptor_store.proofs.Words.{∥∥₁_map, ∥∥₁_elim, ∥∥₁_prop, Cast, number_of, Content, AreRowsFrom, AreValues}
 use Rattle.acceptor_store.proofs.Words.{greatest, Holds, HoldsEither, AddsNothing, Files, FileStore, over_files}
 use Rattle.acceptor_store.proofs.Words.{file_state, image_of, IsOpened, Finds, survives_then, opens_again, Ghosts}
 use Rattle.acceptor_store.proofs.Words.{Trees, Database, IsDatabase, State, HasCleanDisk, Survives, Opens, IsUnchanged}
+use Rattle.acceptor_store.proofs.Words.{IsOwnedAt, IsUnownedVersion, ServesKnown, StaysKnown, Fourth}
 use Rattle.acceptor_store.proofs.Words.{Version, First, Second, Third, AreByRowid, AreShaped, Rereads, Held, state}
 use Rattle.acceptor_store.proofs.Words.{AllByRecursion, HasFacts, IsForeignSchema, Numbers, IsReread, Owner, schema_of}
 use Rattle.acceptor_store.proofs.Words.{blank_schema, AreTablesOf, HasLearned, KeepsLearned, IsNumber, IsCast}
@@ -14,6 +15,9 @@ use Rattle.acceptor_store.proofs.Words.{StillServes, DoesNotServe, one_content, 
 use Rattle.acceptor_store.proofs.Words.{MayFindIn, IsHonest, is_clean_in, held_of, IsLinked, IsServing, Stands}
 use Rattle.acceptor_store.proofs.Words.{IsTested, CannotBeRead, Tells, Leaves, Reopens, Examines, Had, IsIn, IsFoundIn}
 use Rattle.acceptor_store.proofs.Words.{SeesForeign, HasNumbers, StaysAs, no_doubt, clean_of}
+use Rattle.acceptor_store.proofs.Words.{IsCount, OwnedAt, ShowsCount, count_bytes, fact_shown, facts_of}
+use Rattle.acceptor_store_parts.proofs.Callers.{count_bytes_once}
+use Rattle.sqlite.specs.Order.{Row}
 use Rattle.sqlite_schema.specs.declared.schema.Schema.{Schema}
 use Rattle.sqlite_disk.specs.declared.Disk as disk
 use Rattle.sqlite_schema.specs.Names.{same_name}
@@ -24,22 +28,23 @@ use Rattle.acceptor_store.proofs.Found.{found_is, found_it}
 module _ {S : Type 0} (g : Ghosts S) (settled : (s : S) (db : Trees) → IsTrue (g.view s).is_open → g.recovers s db → db ≡ (g.view s).committed)
     (stays : (s : S) → IsTrue (g.view s).is_open → g.recovers s (g.view s).committed) (owner : Option Owner) (old new : Held S) (numbers : Numbers) where
   pub tells : (state g old).now.schema ≡ schema_for owner → HasCleanDisk (state g new) → ((c : Content) → ServesFor owner (state g old) c → AreNumbersOf numbers c)
-      → StillServes (state g old) (state g new) → Survives (state g old) (state g new) (λ _. CannotBeRead owner (state g old)) → Tells g owner old new numbers
+      → StaysKnown owner numbers.count (state g old) (state g new) → Survives (state g old) (state g new) (λ _. CannotBeRead owner (state g old)) → Tells g owner old new numbers
   tells schema clean value still survives = (
     schema,
     λ c was.
-        let now = still owner c was in
+        let known = still c was in
+        let now = known.2.serves in
         let left : (db : Trees) → (state g new).may_leave db → db ≡ (state g old).committed.trees =
         λ db may. elim (survives.crash clean db may) [ inl there ↦ settled old.store db was.is_open there | inr none ↦ absurd (none.1 c was) ] in
         let stand : Stands g owner new = λ db may. ∣ (c, subst (λ t. AreTablesFor owner t c) (ap (λ (d : Database). d.trees) now.settled ∙ sym (settled new.store db now.is_open may)) now.tables) ∣₁ in
-        (now, value c was, stand, (∣ found_it g settled stays owner new c now ∣₁, found_is g settled stays owner new c now), left),
+        (known, value c was, stand, (∣ found_it g settled stays owner new c now ∣₁, found_is g settled stays owner new c now), left),
   )
 
 -- reads of the tables that were tested commit nothing
-pub tests_leave : (owner : Option Owner) (old mid new : State) → old.now.schema ≡ schema_for owner → (HasCleanDisk mid → StillServes old mid) → Survives old mid (λ _. old.now.schema ≡ schema_for owner → ⊥)
+pub tests_leave : (owner : Option Owner) (old mid new : State) → old.now.schema ≡ schema_for owner → (HasCleanDisk mid → (c : Content) → ServesFor owner old c → ServesFor owner mid c) → Survives old mid (λ _. old.now.schema ≡ schema_for owner → ⊥)
     → Survives mid new (λ _. DoesNotServe mid) → Survives old new (λ _. CannotBeRead owner old)
 tests_leave owner old mid new schema still one two =
-    survives_then old mid new _ _ _ (λ _ db other. absurd (other schema)) (λ clean db none. (schema, λ x was. none x (owner, still (omega (arith, two.clean, clean)) owner x was))) one two
+    survives_then old mid new _ _ _ (λ _ db other. absurd (other schema)) (λ clean db none. (schema, λ x was. none x (owner, still (omega (arith, two.clean, clean)) x was))) one two
 
 module _ {S : Type 0} (g : Ghosts S) (owner : Option Owner) (old mid new : Held S) (opens : Opens (state g mid)) (found : ∥ (state g old).may_leave (state g mid).committed.trees ∥₁) where
   serves_mid : (state g mid).now.schema ≡ schema_for owner → (c : Content) → AreTablesFor owner (state g mid).committed.trees c → ServesFor owner (state g mid) c
@@ -152,12 +157,40 @@ all_values (row ∷ rows) all = (all.0.1, all_values rows all.1)
 
 -- what a read that changed nothing serves still
 pub unchanged_serves : (old new : State) → IsUnchanged old new → StillServes old new
-unchanged_serves old new same = λ owner c was. record {
-  is_open = same.0.is_open;
-  autocommit = same.0.mode ∙ was.autocommit;
-  settled = same.0.now_is ∙ was.settled ∙ sym same.0.committed_is;
-  schema = ap (λ (d : Database). d.schema) same.0.now_is ∙ was.schema;
-  tables = subst (λ (d : Database). AreTablesFor owner d.trees c) (sym same.0.now_is) was.tables;
+unchanged_serves old new same = λ owner n c was. record {
+  serves = record {
+    is_open = same.0.is_open;
+    autocommit = same.0.mode ∙ was.serves.autocommit;
+    settled = same.0.now_is ∙ was.serves.settled ∙ sym same.0.committed_is;
+    schema = ap (λ (d : Database). d.schema) same.0.now_is ∙ was.serves.schema;
+    tables = subst (λ (d : Database). AreTablesFor owner d.trees c) (sym same.0.now_is) was.serves.tables;
+  };
+  counted = subst (λ (d : Database). IsOwnedAt owner n d.trees) (sym same.0.now_is) was.counted;
+}
+
+-- the count that was read is that of what is served
+pub stays_known : (old new : State) (owner : Owner) (rows : List Row) (count : Option ℕ) → IsUnchanged old new → ((o : Owner) (n : ℕ) → OwnedAt o n old.now.trees → rows ≡ map fact_shown (facts_of o n))
+    → IsSomeAnd count (λ n. IsCount n × ShowsCount rows owner n) → StaysKnown (Some owner) count old new
+stays_known old new owner rows None same value is = absurd is
+stays_known old new owner rows (Some n) same value is = λ c was.
+    let m = was.tables.owned.0 in
+    let at = was.tables.owned.1 in
+    let shown : map fact_shown (facts_of owner m) ≡ map fact_shown (facts_of owner n) = sym (value owner m at) ∙ is.1 in
+    let bytes : count_bytes m ≡ count_bytes n = cc in
+    (m, ap Some (sym (count_bytes_once m n at.0 is.0 bytes)), unchanged_serves old new same (Some owner) m c (record { serves = was; counted = at }))
+
+-- and a connection that was opened over its store is as one that was
+pub still_reread : (version : Version) (old new : State) → IsUnchanged old new → (AreShaped Third old.now.trees → AreShaped version old.now.trees) → IsReread Third old → IsReread version new
+still_reread version old new same shapes it = record {
+  opens = record {
+    is_open = same.0.is_open;
+    clean = same.0.now_is ∙ it.opens.clean ∙ sym same.0.committed_is;
+    autocommit = same.0.mode ∙ it.opens.autocommit;
+    unmarked = same.2 ∙ it.opens.unmarked;
+    uncounted = (same.1.changes ∙ it.opens.uncounted.0, same.1.last_rowid ∙ it.opens.uncounted.1);
+  };
+  live = λ opened. let live = it.live it.opens.is_open in (subst IsDatabase (sym same.0.now_is) live.0, subst IsDatabase (sym same.0.committed_is) live.1);
+  shaped = subst (λ (d : Database). AreShaped version d.trees) (sym same.0.now_is) (shapes it.shaped);
 }
 
 -- the table of learned values, in each version that has one
@@ -165,11 +198,13 @@ learned_there : (version : Version) → KeepsLearned version → (db : Trees) (c
 learned_there First keeps db c h = absurd keeps
 learned_there Second keeps db c h = h
 learned_there Third keeps db c h = h
+learned_there Fourth keeps db c h = h
 
 pub has_learned : (version : Version) → (version ≡ First → ⊥) → KeepsLearned version
 has_learned First other = absurd (other refl)
 has_learned Second other = tt
 has_learned Third other = tt
+has_learned Fourth other = tt
 
 pub learned_held : (version : Version) → KeepsLearned version → (old : State) {X E : Type 0} (r : Result X E) (items : X → List (ℕ × List ℕ))
     → IfOk r (λ x. (v : Version) → KeepsLearned v → AreByRowid v old → old.now.trees 2 ≡ map learned_row (items x))
@@ -213,26 +248,34 @@ not_blank : (version : Version) → schema_of version ≡ blank_schema → ⊥
 not_blank First e = absurd (let t : 2 ≡ 0 = ap (λ (s : Schema). length s.tables) e in cc)
 not_blank Second e = absurd (let t : 3 ≡ 0 = ap (λ (s : Schema). length s.tables) e in cc)
 not_blank Third e = absurd (let t : 4 ≡ 0 = ap (λ (s : Schema). length s.tables) e in cc)
+not_blank Fourth e = absurd (let t : 4 ≡ 0 = ap (λ (s : Schema). length s.tables) e in cc)
 
--- a schema tells its version, by how many tables it has
+-- a schema tells its version, by how many tables it has; those of versions 3 and 4 have the same
 abbrev with_tables : ℕ → Version
 with_tables n = if n == 2 then First else (if n == 3 then Second else Third)
 
-told_by : (version : Version) → with_tables (length (schema_of version).tables) ≡ version
-told_by First = refl
-told_by Second = refl
-told_by Third = refl
+told_by : (version : Version) → (version ≡ Fourth → ⊥) → with_tables (length (schema_of version).tables) ≡ version
+told_by First other = refl
+told_by Second other = refl
+told_by Third other = refl
+told_by Fourth other = absurd (other refl)
 
-pub one_version : (v w : Version) → schema_of v ≡ schema_of w → v ≡ w
-one_version v w e = sym (told_by v) ∙ ap (λ (s : Schema). with_tables (length s.tables)) e ∙ told_by w
+pub one_version : (v w : Version) → (v ≡ Fourth → ⊥) → (w ≡ Fourth → ⊥) → schema_of v ≡ schema_of w → v ≡ w
+one_version v w first second e = sym (told_by v first) ∙ ap (λ (s : Schema). with_tables (length s.tables)) e ∙ told_by w second
 
 -- a schema of version 3 has a table of facts
 pub third_has_facts : HasFacts (schema_of Third)
 unfolding same_name
 third_has_facts = refl
 
-pub not_third : (s : Schema) (version : Version) → s ≡ schema_of version → (IsForeignSchema s → ⊥) → version ≡ Third → ⊥
-not_third s version is ours third = ours (inl (subst HasFacts (sym (is ∙ ap schema_of third)) third_has_facts))
+pub unowned_version : (s : Schema) (version : Version) → s ≡ schema_of version → (IsForeignSchema s → ⊥) → IsUnownedVersion version
+unowned_version s First is ours = tt
+unowned_version s Second is ours = tt
+unowned_version s Third is ours = ours (inl (subst HasFacts (sym is) third_has_facts))
+unowned_version s Fourth is ours = ours (inl (subst HasFacts (sym is) third_has_facts))
+
+not_fourth : (version : Version) → IsUnownedVersion version → version ≡ Fourth → ⊥
+not_fourth version unowned is = subst IsUnownedVersion is unowned
 
 pub always : {T E A : Type 0} (r : Result T E) → A → OnOk r A
 always (Ok x) a = a
@@ -241,16 +284,19 @@ always (Err e) a = tt
 pub own : {S : Type 0} (g : Ghosts S) (conn : Held S) (c : Content) → (IsForeignSchema (state g conn).now.schema → ⊥) → Had g conn c → SeesForeign g conn → ⊥
 own g conn c ours had (inl schema) = ours schema
 own g conn c ours (inl blank) (inr rows) = not_blank rows.0 (sym rows.1 ∙ blank.0)
-own g conn c ours (inr there) (inr rows) = rows.2 c (subst (λ v. AreTablesOf v (state g conn).committed.trees c) (one_version there.0 rows.0 (sym there.1.0 ∙ rows.1)) there.1.1) there.1.2
+own g conn c ours (inr there) (inr rows) =
+    let s = (state g conn).now.schema in
+    let same = one_version there.0 rows.0 (not_fourth there.0 (unowned_version s there.0 there.1.0 ours)) (not_fourth rows.0 (unowned_version s rows.0 rows.1 ours)) (sym there.1.0 ∙ rows.1) in
+    rows.2 c (subst (λ v. AreTablesOf v (state g conn).committed.trees c) same there.1.1) there.1.2
 
 -- the records over tables that serve a content
 module _ {S : Type 0} (g : Ghosts S) (settled : (s : S) (db : Trees) → IsTrue (g.view s).is_open → g.recovers s db → db ≡ (g.view s).committed)
     (stays : (s : S) → IsTrue (g.view s).is_open → g.recovers s (g.view s).committed) (owner : Option Owner) (Was : Content → Type 0) (new : Held S) (numbers : Numbers)
-    (it : HasCleanDisk (state g new) → (c : Content) × Was c × ServesFor owner (state g new) c × AreNumbersOf numbers c) where
+    (it : HasCleanDisk (state g new) → (c : Content) × Was c × ServesKnown owner numbers.count (state g new) c × AreNumbersOf numbers c) where
   pub opened_linked : IsServing g owner new true numbers
   opened_linked clean =
       let now = it clean in (
-        λ db may. ∣ (now.0, subst (λ t. AreTablesFor owner t now.0) (ap (λ (d : Database). d.trees) now.2.settled ∙ sym (settled new.store db now.2.is_open may)) now.2.tables) ∣₁,
+        λ db may. ∣ (now.0, subst (λ t. AreTablesFor owner t now.0) (ap (λ (d : Database). d.trees) now.2.2.serves.settled ∙ sym (settled new.store db now.2.2.serves.is_open may)) now.2.2.serves.tables) ∣₁,
         λ up. (now.0, now.2, now.3),
       )
 
@@ -263,7 +309,7 @@ module _ {S : Type 0} (g : Ghosts S) (settled : (s : S) (db : Trees) → IsTrue 
       let now = it (over_clean r held h) in (
         now.0,
         now.1,
-        subst₂ (λ o x. Holds (MayFind g o x) now.0) (sym own) (sym held) (∣ found_it g settled stays owner new now.0 now.2 ∣₁, found_is g settled stays owner new now.0 now.2),
+        subst₂ (λ o x. Holds (MayFind g o x) now.0) (sym own) (sym held) (∣ found_it g settled stays owner new now.0 now.2.2.serves ∣₁, found_is g settled stays owner new now.0 now.2.2.serves),
       )
 
 -- what an open of files had is in them

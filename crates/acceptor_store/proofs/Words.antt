@@ -8,6 +8,11 @@ pub use Rattle.acceptor.specs.Faults.{IsHarmless}
 pub use Rattle.acceptor.specs.Found.{AddsNothing, AddsOnly, Findable, FindsSame, HasMade, Holds, HoldsEither, Keeps}
 pub use Rattle.acceptor.specs.Found.{MayHaveMade}
 pub use Rattle.acceptor.specs.declared.records.RecordsFault.{RecordsFault}
+pub use Rattle.acceptor_store.specs.Counting.{AreTablesNext, Follows, HasCounted, HasCountedAll, MayHaveCounted}
+pub use Rattle.acceptor_store.specs.Counting.{MayHaveCountedAll}
+pub use Rattle.acceptor_store.specs.Linked.{IsKnownCount, IsUnownedVersion, ServesKnown, StaysKnown}
+pub use Rattle.acceptor_store.specs.Owning.{AreReadAs, CountsFor, HadFor, HadRead, IsCountRead, IsToCount}
+pub use Rattle.acceptor_store.specs.Owning.{IsToMakeFor, NamesAt, NamesNone, ServesRead, ShowsAt, version_read}
 pub use Rattle.acceptor_store.specs.Linked.{AreNumbersOf, CannotBeRead, Examines, FailsAnew, FindsContent, Had, HadIn}
 pub use Rattle.acceptor_store.specs.Linked.{HasFurther, HasNumbers, HasStopped, IsFoundIn, IsHonest, IsIn, IsLeftWhole}
 pub use Rattle.acceptor_store.specs.Linked.{IsLinked, IsRefused, IsServing, IsTested, IsToMake, Knows, Leaves, Linked}
@@ -26,21 +31,24 @@ pub use Rattle.acceptor_store_parts.proofs.Callers.{all_learned_shown, all_rows,
 pub use Rattle.acceptor_store_parts.proofs.Callers.{one_content, serves_as, serves_for, tables_as, tables_for}
 pub use Rattle.acceptor_store_parts.specs.Foreign.{HasFacts, HoldsNone, HoldsNoneOwned, IsBroken, IsForeignSchema}
 pub use Rattle.acceptor_store_parts.specs.Foreign.{IsUnowned}
-pub use Rattle.acceptor_store_parts.specs.Making.{IsMade, MayBeMade}
-pub use Rattle.acceptor_store_parts.specs.Owned.{AreTablesFor, IsOwner, OwnedBy, owner_bytes, schema_for, version_for}
+pub use Rattle.acceptor_store_parts.specs.Making.{IsMade, MayBeMade, first_count}
+pub use Rattle.acceptor_store_parts.specs.Counts.{ShowsCount}
+pub use Rattle.acceptor_store_parts.specs.Owned.{AreOwnedBy, AreTablesAt, AreTablesFor, AreUncounted, IsCount, IsNext}
+pub use Rattle.acceptor_store_parts.specs.Owned.{IsOwnedAt, IsOwner, NamesOwner, OwnedAt, OwnedBefore, OwnedBy}
+pub use Rattle.acceptor_store_parts.specs.Owned.{count_bytes, facts_of, owner_bytes, schema_for, version_for}
 pub use Rattle.acceptor_store_parts.specs.Rowids.{AreByRowid, AreShaped, IsReread, Rereads}
 pub use Rattle.acceptor_store_parts.specs.Serves.{DoesNotServe, HasWritten, IsOther, MayHaveWritten, Serves, ServesAs}
-pub use Rattle.acceptor_store_parts.specs.Serves.{ServesFor, StillServes}
+pub use Rattle.acceptor_store_parts.specs.Serves.{ServesAt, ServesFor, StillServes}
 pub use Rattle.acceptor_store_parts.specs.Stops.{LeavesOpen, leaves_open}
 pub use Rattle.acceptor_store_parts.specs.Stored.{AreTablesOf, HasLearned, IsCast, IsLearned, IsNumber, KeepsLearned}
-pub use Rattle.acceptor_store_parts.specs.Stored.{learned_row, numbers_of, vote_row}
+pub use Rattle.acceptor_store_parts.specs.Stored.{fact_row, fact_shown, learned_row, numbers_of, vote_row}
 pub use Rattle.acceptor_store_parts.specs.Tables.{blank_schema, schema_of}
 pub use Rattle.acceptor_store_parts.specs.Tests.{IsFault, IsTold, told_as}
 pub use Rattle.acceptor_store_parts.specs.declared.Stop.{Stop}
 pub use Rattle.acceptor_store_parts.specs.declared.Stop.TheVariants.{Down, Memory}
 pub use Rattle.acceptor_store_parts.specs.declared.Version.{Version}
-pub use Rattle.acceptor_store_parts.specs.declared.Version.TheVariants.{First, Second, Third}
-pub use Rattle.acceptor_store_parts.specs.declared.making.Making.TheVariants.{Owned, OwnedTables, Raised, Tables}
+pub use Rattle.acceptor_store_parts.specs.declared.Version.TheVariants.{First, Second, Third, Fourth}
+pub use Rattle.acceptor_store_parts.specs.declared.making.Making.TheVariants.{Counted, Owned, OwnedTables, Raised, Tables}
 pub use Rattle.acceptor_store_parts.specs.declared.owner.Owner.{Owner}
 pub use Rattle.ballots.proofs.Callers.{in_order, put_after, put_before, put_here}
 pub use Rattle.ballots.specs.Ballots.{number_of}

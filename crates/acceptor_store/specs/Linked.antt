@@ -22,7 +22,7 @@ use Rattle.acceptor.specs.Found.{Holds, AddsNothing}
 use Rattle.ballots.specs.declared.members.Members.{Members}
 use Rattle.ballots.specs.declared.members.Members.TheVariants.{Three, Five}
 use Rattle.acceptor_store_parts.specs.declared.Version.{Version}
-use Rattle.acceptor_store_parts.specs.declared.Version.TheVariants.{First}
+use Rattle.acceptor_store_parts.specs.declared.Version.TheVariants.{First, Second, Third, Fourth}
 use Rattle.acceptor_store_parts.specs.declared.owner.Owner.{Owner}
 use Rattle.acceptor_store_parts.specs.Tables.{schema_of, blank_schema}
 use Rattle.acceptor_store_parts.specs.Rowids.{IsReread, Rereads}
@@ -30,7 +30,7 @@ use Rattle.acceptor_store.specs.declared.known.Numbers.{Numbers}
 use Rattle.acceptor_store_parts.specs.Stored.{AreTablesOf, IsOfNode, number_row, numbers_of}
 use Rattle.acceptor_store_parts.specs.Owned.{AreTablesFor, schema_for}
 use Rattle.acceptor_store_parts.specs.Foreign.{IsForeign, IsForeignSchema}
-use Rattle.acceptor_store_parts.specs.Serves.{ServesFor, ServesAs}
+use Rattle.acceptor_store_parts.specs.Serves.{ServesAs, ServesAt, ServesFor}
 use Rattle.acceptor_store_parts.specs.Tests.{IsShutBy}
 
 -- records as their contracts see them
@@ -41,7 +41,7 @@ pub record Linked (S : Type 0) : Type 0 where
   pub is_up : Bool
   -- there is a connection: no reopen has failed so far to open the store
   pub is_linked : Bool
-  -- the ballot tried and the promised one, as the tables have them while it is up
+  -- the ballot tried and the promised one, and an owner's count, as the tables have them while it is up
   pub numbers : Numbers
   pub failures : ℕ
   -- whose they are, where they have an owner
@@ -67,7 +67,9 @@ abbrev pub owner_code : Coded Owner
 owner_code = code_by (ℕ × Bool) (coded× coded_ℕ coded_bool) (λ o. (o.node, is_five o.members)) (λ p. record { node = p.0; members = members_by p.1 }) owner_back
 
 abbrev pub numbers_code : Coded Numbers
-numbers_code = code_by (Option ℕ × Option ℕ) (coded× (coded_option coded_ℕ) (coded_option coded_ℕ)) (λ n. (n.tried, n.promised)) (λ p. record { tried = p.0; promised = p.1 }) (λ _. refl)
+numbers_code =
+    code_by (Option ℕ × (Option ℕ × Option ℕ)) (coded× (coded_option coded_ℕ) (coded× (coded_option coded_ℕ) (coded_option coded_ℕ))) (λ n. (n.tried, (n.promised, n.count)))
+    (λ p. record { tried = p.0; promised = p.1.0; count = p.1.1 }) (λ _. refl)
 
 -- they are stored as the tuple of their fields
 abbrev pub linked_code : {S : Type 0} → Coded S → Coded (Linked S)
@@ -110,9 +112,22 @@ abbrev pub greatest_beside : ℕ → ℕ → List (ℕ × Cast) → ℕ
 greatest_beside p m [] = m
 greatest_beside p m (vote ∷ votes) = if vote.0 == p then greatest_beside p m votes else max vote.1.ballot (greatest_beside p m votes)
 
+-- the count of an owner's tables, where it is known; without an owner there is none
+abbrev pub IsKnownCount : Option Owner → ℕ → Option ℕ → Type 0
+IsKnownCount None n count = count ≡ None
+IsKnownCount (Some owner) n count = count ≡ Some n
+
+-- it serves this content for this owner, at the count that is known
+abbrev pub ServesKnown : Option Owner → Option ℕ → State → Content → Type 0
+ServesKnown owner count s c = (n : ℕ) × IsKnownCount owner n count × ServesAt owner n s c
+
+-- what it served for this owner, it serves, at this count
+abbrev pub StaysKnown : Option Owner → Option ℕ → State → State → Type 0
+StaysKnown owner count old new = (c : Content) → ServesFor owner old c → ServesKnown owner count new c
+
 -- it serves some content, which has these numbers
 abbrev pub Knows : {S : Type 0} → Ghosts S → Option Owner → Held S → Numbers → Type 0
-Knows g owner h numbers = (c : Content) × ServesFor owner (state g h) c × AreNumbersOf numbers c
+Knows g owner h numbers = (c : Content) × ServesKnown owner numbers.count (state g h) c × AreNumbersOf numbers c
 
 -- whatever a crash leaves holds some content, and is this owner's
 abbrev pub Stands : {S : Type 0} → Ghosts S → Option Owner → Held S → Type 0
@@ -135,7 +150,7 @@ held_of (Some h) was = Some h
 -- a connection that was tested serves this content, and a crash leaves that
 abbrev pub IsTested : {S : Type 0} → Ghosts S → Option Owner → Held S → Held S → Numbers → Content → Type 0
 IsTested g owner old new numbers c =
-    ServesFor owner (state g new) c × AreNumbersOf numbers c × Stands g owner new × Holds (MayFindIn g owner new) c
+    ServesKnown owner numbers.count (state g new) c × AreNumbersOf numbers c × Stands g owner new × Holds (MayFindIn g owner new) c
     × ((db : Trees) → (state g new).may_leave db → db ≡ (state g old).committed.trees)
 
 -- it serves no content for this owner
@@ -160,6 +175,13 @@ pub record Leaves {S : Type 0} (g : Ghosts S) (owner : Option Owner) (old new : 
 pub record Reopens {S : Type 0} (g : Ghosts S) (owner : Option Owner) (old new : Held S) (numbers : Numbers) : Type 0 where
   pub knows : Stands g owner old → Knows g owner new numbers
   pub holds : (before : Stands g owner old) → Holds (MayFindIn g owner new) (knows before).0
+
+-- a version whose tables have no owner
+abbrev pub IsUnownedVersion : Version → Type 0
+IsUnownedVersion First = Unit {0}
+IsUnownedVersion Second = Unit {0}
+IsUnownedVersion Third = ⊥
+IsUnownedVersion Fourth = ⊥
 
 -- the table of numbers has these
 abbrev pub HasNumbers : Version → Trees → ℕ → ℕ → Type 0
@@ -221,7 +243,7 @@ IsRefused g conn store = IsTrue (state g conn).in_transaction ⊎ (HasFurther (s
 
 -- it serves what the older one had, which has these numbers
 abbrev pub MakesReady : {S : Type 0} → Ghosts S → Held S → Held S → Numbers → Type 0
-MakesReady g old new numbers = (c : Content) × Had g old c × ServesFor None (state g new) c × AreNumbersOf numbers c
+MakesReady g old new numbers = (c : Content) × Had g old c × ServesKnown None numbers.count (state g new) c × AreNumbersOf numbers c
 
 -- the trees are those of the content in one of the versions, or of a database without tables, and the content is none
 abbrev pub IsKeptIn : Trees → Content → Type 0

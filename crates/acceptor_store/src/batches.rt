@@ -10,13 +10,13 @@ ghost use Rattle.node_writes.specs.Rows.{row_write};
 ghost use Rattle.node_writes.specs.Writes.{HasStrange, LeadTo};
 ghost use Rattle.sqlite.specs.Held.{state};
 ghost use Rattle.sqlite.specs.State.{HasCleanDisk, Survives};
-ghost use Rattle.acceptor_store_parts.specs.Batch.{HasWrittenAll, MayHaveWrittenAll};
 ghost use Rattle.acceptor_store_parts.specs.Serves.{DoesNotServe, Serves, ServesFor, StaysOpen, StillServes};
 ghost use Rattle.acceptor_store_parts.specs.Stops.{LeavesOpen};
 ghost use Rattle.acceptor_store.specs.Batches.{WritesAll};
-ghost use Rattle.acceptor_store.specs.Linked.{AreNumbersOf, IsHonest, MayFind, is_clean_in, is_honest};
+ghost use Rattle.acceptor_store.specs.Counting.{HasCountedAll, MayHaveCountedAll};
+ghost use Rattle.acceptor_store.specs.Linked.{AreNumbersOf, IsHonest, MayFind, ServesKnown, is_clean_in, is_honest};
 
-use crate::known::{Numbers, ballots_in, is_below, numbers_of};
+use crate::known::{Numbers, ballots_in, is_below, next_count, numbers_of};
 use crate::{SqlRecords, end};
 use acceptor::{PlainRecords, Records, RecordsFault};
 use acceptor_store_parts::{Owner, Stop};
@@ -43,6 +43,7 @@ fn promised_too(before: Numbers, ballot: Ballot) -> Option<Numbers>
     Some(Numbers {
         tried: before.tried,
         promised: Some(ballot),
+        count: before.count,
     })
 }
 
@@ -55,6 +56,7 @@ fn raised(before: Numbers, row: Row) -> Option<Numbers>
         Row::Tried(ballot) => Some(Numbers {
             tried: Some(ballot),
             promised: before.promised,
+            count: before.count,
         }),
         Row::Promised(ballot) => promised_too(before, ballot),
         Row::Vote(_, ballot) => promised_too(before, ballot),
@@ -74,7 +76,8 @@ fn raised_by_all(before: Numbers, id: NodeId, writes: &[WriteBytes]) -> Option<N
     Some(numbers)
 }
 
-/// Makes the writes in one transaction, and gives the numbers then. Only where none are known they are read.
+/// Makes the writes in one transaction, and gives the numbers then. Only where none are known they are read. Where the
+/// count is at its end, they are Refused.
 fn all_written<S: Alter>(
     alloc: Global,
     conn: &mut Connection<S>,
@@ -83,23 +86,25 @@ fn all_written<S: Alter>(
     batch: &Batch<'_>,
 ) -> Result<Numbers, Stop>
     requires { ¬ HasStrange batch.now.id batch.now.writes.now }
-    ensures value { HasCleanDisk (state S.Store conn.new) → IfOk result (λ n. (c last : Content) → ServesFor owner (state S.Store conn.old) c
-        → AreNumbersOf before c → LeadTo batch.now.id batch.now.writes.now c last → AreNumbersOf n last) }
-    ensures ok { HasCleanDisk (state S.Store conn.new)
-        → OnOk result (HasWrittenAll batch.now.id batch.now.writes.now (state S.Store conn.old) (state S.Store conn.new)) }
+    ensures value { HasCleanDisk (state S.Store conn.new) → IfOk result (λ n. (c last : Content)
+        → ServesKnown owner before.count (state S.Store conn.old) c → AreNumbersOf before c
+        → LeadTo batch.now.id batch.now.writes.now c last → AreNumbersOf n last) }
+    ensures ok { HasCleanDisk (state S.Store conn.new) → IfOk result (λ n. HasCountedAll owner before.count n.count batch.now.id batch.now.writes.now
+        (state S.Store conn.old) (state S.Store conn.new)) }
     ensures err { HasCleanDisk (state S.Store conn.new) → IfErr result (λ e. LeavesOpen e → StillServes (state S.Store conn.old) (state S.Store conn.new)) }
     ensures survives { Survives (state S.Store conn.old) (state S.Store conn.new)
-        (MayHaveWrittenAll batch.now.id batch.now.writes.now (state S.Store conn.old)) }
+        (MayHaveCountedAll owner before.count batch.now.id batch.now.writes.now (state S.Store conn.old)) }
 {
+    let next = next_count(before.count)?;
     let known = raised_by_all(before, batch.id, batch.writes);
-    match acceptor_store_parts::put_rows(conn, batch.id, batch.writes) {
+    match acceptor_store_parts::put_rows(conn, batch.id, batch.writes, next) {
         Ok(()) => {}
         Err(stop) => return Err(stop),
     }
     if let Some(numbers) = known {
-        return Ok(numbers);
+        return Ok(numbers.at(next));
     }
-    match numbers_of(alloc, conn, owner) {
+    match numbers_of(alloc, conn, owner, next) {
         Ok(numbers) => Ok(numbers),
         Err(_) => Err(Stop::Down),
     }

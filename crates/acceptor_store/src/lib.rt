@@ -21,12 +21,13 @@ ghost use Rattle.sqlite.specs.Held.{AreDatabases, state};
 ghost use Rattle.sqlite_trees.specs.View.{IsClean};
 ghost use Rattle.acceptor_store_parts.specs.Asked.{write_of};
 ghost use Rattle.acceptor_store_parts.specs.Foreign.{IsForeignSchema};
-ghost use Rattle.acceptor_store_parts.specs.Owned.{schema_for};
-ghost use Rattle.acceptor_store_parts.specs.Serves.{StillServes};
+ghost use Rattle.acceptor_store_parts.specs.Counts.{ShowsCount};
+ghost use Rattle.acceptor_store_parts.specs.Owned.{IsCount, schema_for};
+ghost use Rattle.acceptor_store_parts.specs.Serves.{DoesNotServe, ServesFor, StillServes};
 ghost use Rattle.acceptor_store_parts.specs.Stops.{LeavesOpen, leaves_open};
 ghost use Rattle.acceptor_store.specs.Stopped.{answer_of};
 ghost use Rattle.acceptor_store.specs.Linked.{MayFind, IsHonest, is_clean_in, is_honest, CannotBeRead, IsServing};
-ghost use Rattle.acceptor_store.specs.Linked.{Tells};
+ghost use Rattle.acceptor_store.specs.Linked.{AreNumbersOf, StaysKnown, Tells};
 ghost use Rattle.acceptor_store.specs.Linked.{Had, HasFurther, IsFoundIn, IsLeftWhole, IsRefused, SeesForeign};
 
 use crate::anew::{end_unopened, opened_anew};
@@ -35,7 +36,7 @@ use acceptor::{Records, RecordsFault};
 use acceptor_store_parts::{Answer, Owner, Put, Stop, version_of_owner};
 use ballots::{Ballot, Cast, Place, Value, Votes};
 pub use owned::OwnerFault;
-use sqlite::{Alter, Connection, Error as SqlError, ErrorCode, FileStore, Files};
+use sqlite::{Alter, Connection, Error as SqlError, ErrorCode, FileStore, Files, Row};
 use sqlite_disk::Disk;
 use std::alloc::Global;
 use std::marker::Model;
@@ -109,18 +110,57 @@ fn end(is_up: &mut bool, failures: &mut u64, stop: Stop) -> RecordsFault
     }
 }
 
-/// Whether the table of facts names this owner. Without one there is no such table.
-fn is_owned<S: Alter>(conn: &mut Connection<S>, owner: Option<Owner>) -> bool
-    ensures stays { HasCleanDisk (state S.Store conn.new) → (state S.Store conn.old).now.schema ≡ schema_for owner → IsTrue result
-        → StillServes (state S.Store conn.old) (state S.Store conn.new) }
+/// The count beside this owner, where the rows of facts show it.
+fn count_beside(rows: &[Row], owner: Owner) -> Option<Option<u64>>
+    ensures { IfSome result (λ count. IsSomeAnd count (λ n. IsCount n × ShowsCount rows.now owner n)) }
+{
+    match acceptor_store_parts::read_facts(rows) {
+        Some((found, count)) if found == owner => Some(Some(count)),
+        _ => None,
+    }
+}
+
+/// The count where the table of facts names this owner.
+fn owner_count<S: Alter>(conn: &mut Connection<S>, owner: Owner) -> Option<Option<u64>>
+    ensures serves { HasCleanDisk (state S.Store conn.new) → (state S.Store conn.old).now.schema ≡ schema_for (Some owner)
+        → IfSome result (λ count. StaysKnown (Some owner) count (state S.Store conn.old) (state S.Store conn.new)) }
+    ensures survives { Survives (state S.Store conn.old) (state S.Store conn.new)
+        (λ _. (state S.Store conn.old).now.schema ≡ schema_for (Some owner) → ⊥) }
+{
+    match acceptor_store_parts::query_facts(conn) {
+        Ok(rows) => count_beside(rows.as_slice(), owner),
+        Err(_) => None,
+    }
+}
+
+/// The count where the table of facts names this owner, and no count without one. None where it names another.
+fn count_for<S: Alter>(conn: &mut Connection<S>, owner: Option<Owner>) -> Option<Option<u64>>
+    ensures serves { HasCleanDisk (state S.Store conn.new) → (state S.Store conn.old).now.schema ≡ schema_for owner
+        → IfSome result (λ count. StaysKnown owner count (state S.Store conn.old) (state S.Store conn.new)) }
     ensures survives { Survives (state S.Store conn.old) (state S.Store conn.new) (λ _. (state S.Store conn.old).now.schema ≡ schema_for owner → ⊥) }
 {
-    let Some(owner) = owner else {
-        return true;
-    };
-    match acceptor_store_parts::query_facts(conn) {
-        Ok(rows) => acceptor_store_parts::read_owner(rows.as_slice()) == Some(owner),
-        Err(_) => false,
+    match owner {
+        None => Some(None),
+        Some(owner) => owner_count(conn, owner),
+    }
+}
+
+/// The numbers with this count, where they can be read.
+fn numbers_at<S: Alter>(
+    alloc: Global,
+    conn: &mut Connection<S>,
+    owner: Option<Owner>,
+    count: Option<u64>,
+) -> Option<Numbers>
+    ensures value { HasCleanDisk (state S.Store conn.new) → IfSome result (λ n. (c : Content)
+        → ServesFor owner (state S.Store conn.old) c → AreNumbersOf n c) }
+    ensures count { IfSome result (λ n. n.count ≡ count) }
+    ensures stays { HasCleanDisk (state S.Store conn.new) → IfSome result (λ _. StillServes (state S.Store conn.old) (state S.Store conn.new)) }
+    ensures survives { Survives (state S.Store conn.old) (state S.Store conn.new) (λ _. DoesNotServe (state S.Store conn.old)) }
+{
+    match numbers_of(alloc, conn, owner, count) {
+        Ok(numbers) => Some(numbers),
+        Err(_) => None,
     }
 }
 
@@ -138,12 +178,9 @@ fn tested<S: Alter>(
         Ok(true) => {}
         _ => return None,
     }
-    if !is_owned(conn, *owner) {
-        return None;
-    }
-    match numbers_of(alloc, conn, *owner) {
-        Ok(numbers) => Some(numbers),
-        Err(_) => None,
+    match count_for(conn, *owner) {
+        Some(count) => numbers_at(alloc, conn, *owner, count),
+        None => None,
     }
 }
 

@@ -1,6 +1,6 @@
 //! The tables of a connection, tested, made or brought to version 2 as records are opened.
 
-ghost use Rattle.std.specs.Prelude.{◌≡◌, ◌≢◌, ◌≤◌, ◌⊎◌, Err, false, map, IfOk, IfErr, IsErrAnd, OnOk, IsTrue};
+ghost use Rattle.std.specs.Prelude.{◌≡◌, ◌≢◌, ◌≤◌, ◌⊎◌, Err, None, false, map, IfOk, IfErr, IsErrAnd, OnOk, IsTrue};
 ghost use Rattle.std.specs.List.{AllByRecursion};
 ghost use Rattle.ballots.specs.Ballots.{number_of};
 ghost use Rattle.acceptor.specs.Content.{AreRowsFrom, Content};
@@ -16,7 +16,7 @@ ghost use Rattle.acceptor_store_parts.specs.Stored.{learned_row, vote_row};
 ghost use Rattle.acceptor_store_parts.specs.Serves.{ServesAs, IsOther};
 ghost use Rattle.acceptor_store.specs.Stopped.{fault_of};
 ghost use Rattle.acceptor_store.specs.Linked.{HasFurther, Examines, MakesReady, SeesForeign, HasNumbers, HasStopped};
-ghost use Rattle.acceptor_store.specs.Linked.{StaysAs};
+ghost use Rattle.acceptor_store.specs.Linked.{IsUnownedVersion, StaysAs};
 ghost use Rattle.acceptor_store.specs.Linked.{FailsAnew, FindsContent, IsLeftWhole, IsRefused, IsToMake};
 
 use crate::OpenFault;
@@ -177,6 +177,7 @@ pub fn examined<S: Alter>(
 ) -> Result<Numbers, OpenFault>
     ensures tables { HasCleanDisk (state S.Store conn.new) → (state S.Store conn.old).now.schema ≡ schema_of version
         → IfOk result (Examines S.Store version conn.old conn.new) }
+    ensures count { IfOk result (λ n. n.count ≡ None) }
     ensures same { HasCleanDisk (state S.Store conn.new) → (state S.Store conn.old).now.schema ≡ schema_of version
         → OnOk result (StaysAs version (state S.Store conn.old) (state S.Store conn.new)) }
     ensures foreign { HasCleanDisk (state S.Store conn.new) → (state S.Store conn.old).now.schema ≡ schema_of version → result ≡ Err OpenFault.Foreign
@@ -192,7 +193,19 @@ pub fn examined<S: Alter>(
     Ok(Numbers {
         tried: numbers.0,
         promised,
+        count: None,
     })
+}
+
+/// The version that a schema of this one is told as: those of versions 3 and 4 are the same.
+fn told_version(version: Version) -> Version
+    ensures same { schema_of result ≡ schema_of version }
+    ensures told { result ≢ Version.Fourth }
+{
+    match version {
+        Version::Fourth => Version::Third,
+        other => other,
+    }
 }
 
 /// Whether the schema is that of the tables of this version alone.
@@ -202,7 +215,7 @@ pub fn is_of(alloc: Global, schema: &Schema, version: Version) -> Result<bool, O
     ensures err { IfErr result (λ e. e ≡ OpenFault.OutOfMemory) }
 {
     match acceptor_store_parts::version_of(alloc, schema) {
-        Ok(Some(found)) => Ok(found == version),
+        Ok(Some(found)) => Ok(told_version(found) == told_version(version)),
         Ok(None) => Ok(false),
         Err(_) => Err(OpenFault::OutOfMemory),
     }
@@ -217,6 +230,7 @@ fn reread<S: Alter + Drop>(
 ) -> Result<(Connection<S>, Numbers), (OpenFault, S)>
     ensures tables { IfOk result (λ r. HasCleanDisk (state S.Store r.0) → (state S.Store conn).now.schema ≡ schema_of version
         → FindsContent S.Store version conn r.0 r.1) }
+    ensures count { IfOk result (λ r. r.1.count ≡ None) }
     ensures clean { IfOk result (λ r. doubt (state S.Store conn).is_clean ≤ doubt (state S.Store r.0).is_clean) }
     ensures leaves { IfOk result (λ r. HasCleanDisk (state S.Store r.0) → (db : Trees) → (state S.Store r.0).may_leave db → (state S.Store conn).may_leave db) }
     ensures left { IfErr result (λ e. IsClean (S.Store.view e.1) → (db : Trees) → S.Store.recovers e.1 db → (state S.Store conn).may_leave db) }
@@ -239,14 +253,14 @@ fn reread<S: Alter + Drop>(
     }
 }
 
-/// The connection over the tables of version 2, where it had those of this version, which isn't
-/// the third, and their numbers.
+/// The connection over the tables of version 2, where it had those of this version, which has no
+/// owner, and their numbers.
 fn brought_up<S: Alter + Drop>(
     alloc: Global,
     version: Version,
     conn: Connection<S>,
 ) -> Result<(Connection<S>, Numbers), (OpenFault, S)>
-    requires unowned { version ≢ Version.Third }
+    requires unowned { IsUnownedVersion version }
     ensures tables { IfOk result (λ r. HasCleanDisk (state S.Store r.0) → (state S.Store conn).now.schema ≡ schema_of version
         → MakesReady S.Store conn r.0 r.1) }
     ensures clean { IfOk result (λ r. doubt (state S.Store conn).is_clean ≤ doubt (state S.Store r.0).is_clean) }
@@ -266,7 +280,7 @@ fn brought_up<S: Alter + Drop>(
             Ok(raised) => Ok((raised, found.1)),
             Err(refused) => Err((stopped(refused.0), refused.1)),
         },
-        Version::Third => unreachable!(),
+        Version::Third | Version::Fourth => unreachable!(),
     }
 }
 
@@ -292,7 +306,7 @@ pub fn prepared<S: Alter + Drop>(
     }
     if acceptor_store_parts::is_blank(conn.schema()) {
         return match acceptor_store_parts::make(conn, Making::Tables) {
-            Ok(made) => Ok((made, Numbers::none())),
+            Ok(made) => Ok((made, Numbers::none(None))),
             Err((stop, store)) => Err((stopped(stop), store)),
         };
     }

@@ -1,28 +1,29 @@
 //! Records that have an owner: whose file it is stands in the file.
 
-ghost use Rattle.std.specs.Prelude.{◌≡◌, ◌≢◌, ◌≤◌, ◌⊎◌, Err, false, IfErr, IfNone, IfOk, IfSome, IsErrAnd, OnOk};
+ghost use Rattle.std.specs.Prelude.{◌≡◌, ◌≢◌, ◌≤◌, ◌⊎◌, ℕ, Bool, Err, None, Option, false, IfErr, IfNone, IfOk, IfSome, IsErrAnd, OnOk};
 ghost use Rattle.std.specs.Prelude.{IsTrue, Some};
 ghost use Rattle.acceptor.specs.Content.{Content};
 ghost use Rattle.acceptor.specs.Found.{Holds};
-ghost use Rattle.sqlite.specs.State.{HasCleanDisk, Survives};
+ghost use Rattle.sqlite.specs.State.{HasCleanDisk, IsUnchanged, Survives};
 ghost use Rattle.sqlite.specs.Tree.{Trees};
 ghost use Rattle.sqlite.specs.Held.{state};
 ghost use Rattle.sqlite_trees.specs.View.{IsClean, doubt};
 ghost use Rattle.acceptor_store_parts.specs.Foreign.{HoldsNoneOwned, IsBroken, IsUnowned};
-ghost use Rattle.acceptor_store_parts.specs.Owned.{IsOwner, OwnedBy};
+ghost use Rattle.acceptor_store_parts.specs.Owned.{AreTablesFor, IsOwner, NamesOwner};
 ghost use Rattle.acceptor_store_parts.specs.Rowids.{AreByRowid, IsReread};
 ghost use Rattle.acceptor_store_parts.specs.Tables.{blank_schema, schema_of};
-ghost use Rattle.acceptor_store.specs.Linked.{FailsAnew, HasStopped, IsHonest, MayFind, StaysAs, is_clean_in};
-ghost use Rattle.acceptor_store.specs.Owning.{AdoptsFor, Claims, ExaminesFor, FindsFor, HadAs, HadBefore, HasFurtherAs};
-ghost use Rattle.acceptor_store.specs.Owning.{IsDue, IsDueBefore, IsLeftAs, IsLeftBefore, IsRefusedBefore};
-ghost use Rattle.acceptor_store.specs.Owning.{IsOthers, IsRefusedFor, IsToldOther, PreparesFor, TellsOther};
+ghost use Rattle.acceptor_store.specs.Linked.{FailsAnew, HasStopped, IsHonest, MayFind, is_clean_in};
+ghost use Rattle.acceptor_store.specs.Owning.{AdoptsFor, Claims, CountsFor, ExaminesFor, FindsFor, HadAs, HadBefore};
+ghost use Rattle.acceptor_store.specs.Owning.{HadFor, HasFurtherAs, IsDue, IsDueBefore, IsLeftAs, IsLeftBefore};
+ghost use Rattle.acceptor_store.specs.Owning.{IsOthers, IsRefusedBefore, IsRefusedFor, IsToCount, IsToldOther, NamesAt};
+ghost use Rattle.acceptor_store.specs.Owning.{IsCountRead, NamesNone, PreparesFor, ShowsAt, TellsOther, version_read};
 
 use crate::known::Numbers;
 use crate::opening::{examined, is_of, prepared, stopped};
 use crate::{OpenFault, SqlRecords};
-use acceptor_store_parts::{Making, Owner, Version};
+use acceptor_store_parts::{FIRST_COUNT, Making, Owner, Version};
 use ballots::{Members, NodeId};
-use sqlite::{Alter, Connection};
+use sqlite::{Alter, Connection, Row};
 use sqlite_schema::schema::Schema;
 use std::alloc::Global;
 use store_anew::OpensAnew;
@@ -31,7 +32,7 @@ use thiserror::Error;
 /// Why records weren't opened for their owner.
 #[derive(Clone, Copy, Debug, PartialEq, Eq, Error)]
 pub enum OwnerFault {
-    /// As `SqlRecords::open` says it. Foreign are tables of version 3 too that no owner wrote.
+    /// As `SqlRecords::open` says it. Foreign are tables of versions 3 and 4 too that no owner wrote.
     #[error(transparent)]
     Open(OpenFault),
     /// There are no tables, and the database may not be new.
@@ -72,7 +73,7 @@ fn differs(found: Owner, wanted: Owner) -> Option<OwnerFault>
     None
 }
 
-/// Refuses any schema but that of version 3.
+/// Refuses any schema but that of versions 3 and 4.
 fn judged(alloc: Global, schema: &Schema) -> Result<(), OwnerFault>
     ensures broken { IsBroken schema.now → result ≡ Err (OwnerFault.Open OpenFault.Foreign) }
     ensures unowned { IsUnowned schema.now → result ≡ Err OwnerFault.Unowned }
@@ -97,15 +98,30 @@ fn judged(alloc: Global, schema: &Schema) -> Result<(), OwnerFault>
     }
 }
 
-/// The owner, where the table of facts has what an owner writes.
-fn owner_in<S: Alter>(conn: &mut Connection<S>) -> Result<Owner, OpenFault>
-    ensures held { HasCleanDisk (state S.Store conn.new) → IfOk result (λ owner. AreByRowid Version.Third (state S.Store conn.old)
-        → OwnedBy owner (state S.Store conn.old).now.trees) }
-    ensures fits { IfOk result IsOwner }
+/// The owner and the count that the rows of facts show, or the owner alone as in version 3.
+fn named(rows: &[Row]) -> Option<(Owner, Option<u64>)>
+    ensures some { IfSome result (λ r. ShowsAt rows.now r.0 r.1) }
+    ensures fits { IfSome result (λ r. IsOwner r.0 × IsCountRead r.1) }
+    ensures none { IfNone result ((owner : Owner) (count : Option ℕ) → IsOwner owner → ShowsAt rows.now owner count → ⊥) }
+{
+    if let Some((owner, count)) = acceptor_store_parts::read_facts(rows) {
+        return Some((owner, Some(count)));
+    }
+    let owner = acceptor_store_parts::read_owner(rows)?;
+    Some((owner, None))
+}
+
+/// The owner and the count, where the table of facts has what an owner writes.
+fn owner_in<S: Alter>(conn: &mut Connection<S>) -> Result<(Owner, Option<u64>), OpenFault>
+    ensures held { HasCleanDisk (state S.Store conn.new) → IfOk result (λ r. AreByRowid Version.Third (state S.Store conn.old)
+        → NamesAt r.0 r.1 (state S.Store conn.old).now.trees) }
+    ensures only { HasCleanDisk (state S.Store conn.new) → (state S.Store conn.old).now.schema ≡ schema_of Version.Third
+        → IfOk result (λ r. NamesNone r.1 (state S.Store conn.old).now.trees) }
+    ensures fits { IfOk result (λ r. IsOwner r.0) }
     ensures same { HasCleanDisk (state S.Store conn.new) → (state S.Store conn.old).now.schema ≡ schema_of Version.Third
-        → OnOk result (StaysAs Version.Third (state S.Store conn.old) (state S.Store conn.new)) }
+        → OnOk result (IsUnchanged (state S.Store conn.old) (state S.Store conn.new)) }
     ensures foreign { HasCleanDisk (state S.Store conn.new) → result ≡ Err OpenFault.Foreign → (state S.Store conn.old).now.schema ≡ schema_of Version.Third
-        → (owner : Owner) → IsOwner owner → OwnedBy owner (state S.Store conn.old).now.trees → ⊥ }
+        → (owner : Owner) → IsOwner owner → NamesOwner owner (state S.Store conn.old).now.trees → ⊥ }
     ensures refused { HasCleanDisk (state S.Store conn.new) → (state S.Store conn.old).now.schema ≡ schema_of Version.Third → result ≡ Err OpenFault.Refused
         → HasStopped (state S.Store conn.old) (state S.Store conn.new) }
     ensures survives { Survives (state S.Store conn.old) (state S.Store conn.new) (λ _. (state S.Store conn.old).now.schema ≡ schema_of Version.Third → ⊥) }
@@ -114,13 +130,23 @@ fn owner_in<S: Alter>(conn: &mut Connection<S>) -> Result<Owner, OpenFault>
         Ok(shown) => shown,
         Err(error) => return Err(stopped(acceptor_store_parts::stop_for(conn, error))),
     };
-    match acceptor_store_parts::read_owner(shown.as_slice()) {
-        Some(owner) => Ok(owner),
+    match named(shown.as_slice()) {
+        Some(found) => Ok(found),
         None => Err(OpenFault::Foreign),
     }
 }
 
-/// Tests the rows of version 3, and gives the owner and their numbers.
+/// The version of tables with such a count: without one it is 3.
+fn version_read(count: Option<u64>) -> Version
+    ensures { result ≡ version_read count }
+{
+    match count {
+        None => Version::Third,
+        Some(_) => Version::Fourth,
+    }
+}
+
+/// Tests the rows of version 3 or 4, and gives the owner and their numbers.
 fn examined_owned<S: Alter>(
     alloc: Global,
     conn: &mut Connection<S>,
@@ -133,17 +159,17 @@ fn examined_owned<S: Alter>(
         → HasStopped (state S.Store conn.old) (state S.Store conn.new) }
     ensures survives { Survives (state S.Store conn.old) (state S.Store conn.new) (λ _. (state S.Store conn.old).now.schema ≡ schema_of Version.Third → ⊥) }
 {
-    let numbers = match examined(alloc, conn, Version::Third) {
-        Ok(numbers) => numbers,
+    let (owner, count) = match owner_in(conn) {
+        Ok(found) => found,
         Err(fault) => return Err(fault),
     };
-    match owner_in(conn) {
-        Ok(owner) => Ok((owner, numbers)),
+    match examined(alloc, conn, version_read(count)) {
+        Ok(numbers) => Ok((owner, numbers.at(count))),
         Err(fault) => Err(fault),
     }
 }
 
-/// The connection over its own store, with the rows of version 3 tested, the owner and their
+/// The connection over its own store, with the rows of version 3 or 4 tested, the owner and their
 /// numbers.
 fn reread_owned<S: Alter + Drop>(
     alloc: Global,
@@ -173,7 +199,7 @@ fn reread_owned<S: Alter + Drop>(
     }
 }
 
-/// The connection over the tables of version 3 that were read, and their numbers, where they are this owner's.
+/// The connection over the tables that were read, and their numbers, where they are this owner's.
 fn claimed<S: Alter + Drop>(
     read: Result<(Connection<S>, Owner, Numbers), (OpenFault, S)>,
     owner: Owner,
@@ -190,6 +216,52 @@ fn claimed<S: Alter + Drop>(
     }
 }
 
+/// The connection over this owner's tables of version 4, made of those of version 3 where they have no count, and their
+/// numbers.
+fn counted<S: Alter + Drop>(
+    read: (Connection<S>, Numbers),
+    owner: Owner,
+) -> Result<(Connection<S>, Numbers), (OwnerFault, S)>
+    ensures tables { IfOk result (λ r. HasCleanDisk (state S.Store r.0) → HasCleanDisk (state S.Store read.0)
+        × ((conn : _) → FindsFor S.Store owner conn read.0 read.1 → CountsFor S.Store owner conn r.0 r.1)) }
+    ensures clean { IfOk result (λ r. doubt (state S.Store read.0).is_clean ≤ doubt (state S.Store r.0).is_clean) }
+    ensures left { IfErr result (λ e. IsClean (S.Store.view e.1) → HasCleanDisk (state S.Store read.0)
+        × ((conn : _) → FindsFor S.Store owner conn read.0 read.1 → (db : Trees) → S.Store.recovers e.1 db
+        → (state S.Store read.0).may_leave db ⊎ ((c : Content) × HadFor S.Store owner conn c × AreTablesFor (Some owner) db c))) }
+    ensures due { IfErr result (λ e. (conn : _) (is_new : Bool) → IsDue S.Store owner is_new conn e.0) }
+    ensures refused { IfErr result (λ e. IsClean (S.Store.view e.1) → HasCleanDisk (state S.Store read.0)
+        × ((conn : _) → FindsFor S.Store owner conn read.0 read.1 → IsToCount S.Store owner conn)) }
+{
+    match read.1.count {
+        Some(_) => Ok(read),
+        None => match acceptor_store_parts::make(read.0, Making::Counted(owner)) {
+            Ok(made) => Ok((made, read.1.at(Some(FIRST_COUNT)))),
+            Err((stop, store)) => Err((OwnerFault::Open(stopped(stop)), store)),
+        },
+    }
+}
+
+/// The connection over this owner's tables that are there, and their numbers.
+fn taken_for<S: Alter + Drop>(
+    alloc: Global,
+    conn: Connection<S>,
+    owner: &Owner,
+) -> Result<(Connection<S>, Numbers), (OwnerFault, S)>
+    requires { (state S.Store conn).now.schema ≡ schema_of Version.Third }
+    ensures tables { IfOk result (λ r. HasCleanDisk (state S.Store r.0) → CountsFor S.Store owner.now conn r.0 r.1) }
+    ensures clean { IfOk result (λ r. doubt (state S.Store conn).is_clean ≤ doubt (state S.Store r.0).is_clean) }
+    ensures whole { IfErr result (λ e. IsClean (S.Store.view e.1) → (db : Trees) → S.Store.recovers e.1 db
+        → (state S.Store conn).may_leave db ⊎ ((c : Content) × HadFor S.Store owner.now conn c × AreTablesFor (Some owner.now) db c)) }
+    ensures due { IfErr result (λ e. IsClean (S.Store.view e.1) → (is_new : Bool) → IsDue S.Store owner.now is_new conn e.0) }
+    ensures refused { IfErr result (λ e. e.0 ≡ OwnerFault.Open OpenFault.Refused → IsClean (S.Store.view e.1)
+        → IsToCount S.Store owner.now conn ⊎ FailsAnew S.Store Version.Third conn e.1) }
+{
+    match claimed(reread_owned(alloc, conn), *owner) {
+        Ok(read) => counted(read, *owner),
+        Err(refused) => Err(refused),
+    }
+}
+
 /// The connection with this owner's tables tested or made, and their numbers.
 fn prepared_for<S: Alter + Drop>(
     alloc: Global,
@@ -201,7 +273,7 @@ fn prepared_for<S: Alter + Drop>(
     ensures clean { IfOk result (λ r. doubt (state S.Store conn).is_clean ≤ doubt (state S.Store r.0).is_clean) }
     ensures whole { IfErr result (λ e. IsClean (S.Store.view e.1) → (db : Trees) → S.Store.recovers e.1 db → IsLeftAs S.Store owner.now is_new conn db) }
     ensures due { IfErr result (λ e. IsClean (S.Store.view e.1) → IsDue S.Store owner.now is_new conn e.0) }
-    ensures refused { IfErr result (λ e. e.0 ≡ OwnerFault.Open OpenFault.Refused → IsClean (S.Store.view e.1) → IsRefusedFor S.Store conn e.1) }
+    ensures refused { IfErr result (λ e. e.0 ≡ OwnerFault.Open OpenFault.Refused → IsClean (S.Store.view e.1) → IsRefusedFor S.Store owner.now conn e.1) }
     ensures used { IsTrue (state S.Store conn).in_transaction → IsErrAnd result (λ e. e.0 ≡ OwnerFault.Open OpenFault.Refused) }
     ensures blank { (state S.Store conn).in_transaction ≡ false → (state S.Store conn).now.schema ≡ blank_schema → is_new ≡ false
         → IsErrAnd result (λ e. e.0 ≡ OwnerFault.Blank) }
@@ -220,12 +292,12 @@ fn prepared_for<S: Alter + Drop>(
             return Err((OwnerFault::Blank, conn.into_store()));
         }
         return match acceptor_store_parts::make(conn, Making::OwnedTables(*owner)) {
-            Ok(made) => Ok((made, Numbers::none())),
+            Ok(made) => Ok((made, Numbers::none(Some(FIRST_COUNT)))),
             Err((stop, store)) => Err((OwnerFault::Open(stopped(stop)), store)),
         };
     }
     match judged(alloc, conn.schema()) {
-        Ok(()) => claimed(reread_owned(alloc, conn), *owner),
+        Ok(()) => taken_for(alloc, conn, owner),
         Err(fault) => Err((fault, conn.into_store())),
     }
 }
@@ -241,7 +313,7 @@ fn adopted<S: Alter + Drop>(
     ensures clean { IfOk result (λ r. doubt (state S.Store conn).is_clean ≤ doubt (state S.Store r.0).is_clean) }
     ensures whole { IfErr result (λ e. IsClean (S.Store.view e.1) → (db : Trees) → S.Store.recovers e.1 db → IsLeftBefore S.Store owner.now conn db) }
     ensures due { IfErr result (λ e. IsClean (S.Store.view e.1) → IsDueBefore S.Store owner.now conn e.0) }
-    ensures refused { IfErr result (λ e. e.0 ≡ OwnerFault.Open OpenFault.Refused → IsClean (S.Store.view e.1) → IsRefusedBefore S.Store conn e.1) }
+    ensures refused { IfErr result (λ e. e.0 ≡ OwnerFault.Open OpenFault.Refused → IsClean (S.Store.view e.1) → IsRefusedBefore S.Store owner.now conn e.1) }
     ensures used { IsTrue (state S.Store conn).in_transaction → IsErrAnd result (λ e. e.0 ≡ OwnerFault.Open OpenFault.Refused) }
     ensures blank { (state S.Store conn).in_transaction ≡ false → (state S.Store conn).now.schema ≡ blank_schema
         → IsErrAnd result (λ e. e.0 ≡ OwnerFault.Blank) }
@@ -260,24 +332,26 @@ fn adopted<S: Alter + Drop>(
         Err((fault, store)) => return Err((OwnerFault::Open(fault), store)),
     };
     match acceptor_store_parts::make(found.0, Making::Owned(*owner)) {
-        Ok(owned) => Ok((owned, found.1)),
+        Ok(owned) => Ok((owned, found.1.at(Some(FIRST_COUNT)))),
         Err((stop, store)) => Err((OwnerFault::Open(stopped(stop)), store)),
     }
 }
 
 impl<S: OpensAnew> SqlRecords<S> {
     /// The records of a node that is one of these members, over the connection, in tables of version
-    /// 3. In a database without tables they are made, in one transaction, where it may be new.
+    /// 4. In a database without tables they are made, in one transaction, where it may be new. This
+    /// owner's tables of version 3 are made into them with equal content, in one transaction, and
+    /// get the first count.
     ///
     /// A connection in a transaction is Refused, before anything else is looked at. Then a database
     /// without tables that may not be new is Blank. A schema that has a part of the tables, or one
-    /// that lacks a column, is Foreign, one of an older version is Unowned, and any other than that
-    /// of version 3 is Refused. Last, rows that no owner wrote are Foreign, those of another node
+    /// that lacks a column, is Foreign, one of version 1 or 2 is Unowned, and any other than that of
+    /// versions 3 and 4 is Refused. Last, rows that no owner wrote are Foreign, those of another node
     /// OtherNode, and those of the node as one of other members OtherMembers; nothing was changed
     /// then.
     ///
     /// Want of memory and faults of the store come where they are met. Where it fails the store
-    /// comes back, and holds what it held, or this owner's tables without content.
+    /// comes back, and holds what it held, or this owner's tables of version 4 with what it held.
     pub fn open_as(
         alloc: Global,
         conn: Connection<S>,
@@ -293,7 +367,8 @@ impl<S: OpensAnew> SqlRecords<S> {
         ensures whole { IfErr result (λ e. IsClean (S.Store.view e.1) → (db : Trees) → S.Store.recovers e.1 db
             → IsLeftAs S.Store (record { node = node; members = members }) is_new conn db) }
         ensures due { IfErr result (λ e. IsClean (S.Store.view e.1) → IsDue S.Store (record { node = node; members = members }) is_new conn e.0) }
-        ensures refused { IfErr result (λ e. e.0 ≡ OwnerFault.Open OpenFault.Refused → IsClean (S.Store.view e.1) → IsRefusedFor S.Store conn e.1) }
+        ensures refused { IfErr result (λ e. e.0 ≡ OwnerFault.Open OpenFault.Refused → IsClean (S.Store.view e.1)
+            → IsRefusedFor S.Store (record { node = node; members = members }) conn e.1) }
         ensures used { IsTrue (state S.Store conn).in_transaction → IsErrAnd result (λ e. e.0 ≡ OwnerFault.Open OpenFault.Refused) }
         ensures other { (other : Owner) → IsOthers S.Store (record { node = node; members = members }) conn other
             → TellsOther S.Store (record { node = node; members = members }) conn other result }
@@ -336,7 +411,8 @@ impl<S: OpensAnew> SqlRecords<S> {
         ensures whole { IfErr result (λ e. IsClean (S.Store.view e.1) → (db : Trees) → S.Store.recovers e.1 db
             → IsLeftBefore S.Store (record { node = node; members = members }) conn db) }
         ensures due { IfErr result (λ e. IsClean (S.Store.view e.1) → IsDueBefore S.Store (record { node = node; members = members }) conn e.0) }
-        ensures refused { IfErr result (λ e. e.0 ≡ OwnerFault.Open OpenFault.Refused → IsClean (S.Store.view e.1) → IsRefusedBefore S.Store conn e.1) }
+        ensures refused { IfErr result (λ e. e.0 ≡ OwnerFault.Open OpenFault.Refused → IsClean (S.Store.view e.1)
+            → IsRefusedBefore S.Store (record { node = node; members = members }) conn e.1) }
         ensures used { IsTrue (state S.Store conn).in_transaction → IsErrAnd result (λ e. e.0 ≡ OwnerFault.Open OpenFault.Refused) }
         ensures other { (other : Owner) → IsOthers S.Store (record { node = node; members = members }) conn other
             → TellsOther S.Store (record { node = node; members = members }) conn other result }

@@ -1,7 +1,7 @@
 -- Votes and learned values, as queries show them.
 use Rattle.std.proofs.Common.{◌≡◌, ℕ, pos, List, [], ◌∷◌, map, Option, Result, IfOk, refl}
 use Rattle.acceptor_store_parts.proofs.Words.{IfOk-weaker, Cast, Content, Error, Null, Int, Blob, Row, overlay, State}
-use Rattle.acceptor_store_parts.proofs.Words.{Version, First, Second, Third, Owner, Asked, VoteAt, VotesFrom, LearnedAt}
+use Rattle.acceptor_store_parts.proofs.Words.{Version, First, Second, Third, Fourth, Owner, Asked, VoteAt, VotesFrom, LearnedAt}
 use Rattle.acceptor_store_parts.proofs.Words.{LearnedFrom, shown_of, all_votes_query, all_learned_query, vote_shown}
 use Rattle.acceptor_store_parts.proofs.Words.{learned_row, learned_shown, KeepsLearned, HasLearned, Serves, ServesFor}
 use Rattle.acceptor_store_parts.proofs.Words.{ServesAs}
@@ -40,6 +40,7 @@ pub table_of_learned : (version : Version) → KeepsLearned version → (db : Tr
 table_of_learned First keeps db c h = absurd keeps
 table_of_learned Second keeps db c h = h
 table_of_learned Third keeps db c h = h
+table_of_learned Fourth keeps db c h = h
 
 pub asked_found : (old new : State) (rows : List Row) (asked : Asked) (q : ℕ) → Shown (text_of asked) (Int (pos q) ∷ []) old new rows → (c : Content) → Serves old c → rows ≡ shown_of asked q c
 asked_found old new rows asked q h c was = found was.0 old new c q was.1 rows asked h

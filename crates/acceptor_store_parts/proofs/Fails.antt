@@ -4,7 +4,7 @@ use Rattle.std.proofs.Common.{ap, subst, ◌∙◌, le_refl}
 use Rattle.acceptor_store_parts.proofs.Words.{accepts_program, ProgramOverflows, timed, Schema, Term, Database}
 use Rattle.acceptor_store_parts.proofs.Words.{misses_table, IsSourceOf, Compiled, State, HasCause, IsNoStatement}
 use Rattle.acceptor_store_parts.proofs.Words.{FailsToShow, store_error, Error, StoreError, OutOfMemory, Io, Corrupt}
-use Rattle.acceptor_store_parts.proofs.Words.{Full, Broken, Unstorable, Version, First, Second, Third, KeepsLearned}
+use Rattle.acceptor_store_parts.proofs.Words.{Full, Broken, Unstorable, Version, First, Second, Third, Fourth, KeepsLearned}
 use Rattle.acceptor_store_parts.proofs.Words.{schema_of, IsFault}
 use Rattle.sqlite.specs.Tree.{Trees}
 use Rattle.sqlite.specs.Listing.{understood}
@@ -16,16 +16,19 @@ pub numbers_typed : (version : Version) → accepts_program (schema_of version) 
 numbers_typed First = refl
 numbers_typed Second = refl
 numbers_typed Third = refl
+numbers_typed Fourth = refl
 
 pub votes_typed : (version : Version) → accepts_program (schema_of version) [] all_query [] ≡ true
 votes_typed First = refl
 votes_typed Second = refl
 votes_typed Third = refl
+votes_typed Fourth = refl
 
 pub learned_typed : (version : Version) → KeepsLearned version → accepts_program (schema_of version) [] all_learned_meaning [] ≡ true
 learned_typed First keeps = absurd keeps
 learned_typed Second keeps = refl
 learned_typed Third keeps = refl
+learned_typed Fourth keeps = refl
 
 pub facts_typed : accepts_program (schema_of Third) [] facts_meaning [] ≡ true
 facts_typed = refl

@@ -4,7 +4,7 @@ use Rattle.std.proofs.Common.{IfOk, IfErr, sym, ap, subst, ◌∙◌}
 use Rattle.acceptor_store_parts.proofs.Words.{cases_Bool, Content, Returning, Error, Row, Database, Schema, Compiled}
 use Rattle.acceptor_store_parts.proofs.Words.{State, Executes, RunsCommand, shows_rows, ShowsRows, IsUnchanged}
 use Rattle.acceptor_store_parts.proofs.Words.{IsRolledBack, IsPlain, never_commits, Owner, AreTablesFor, schema_for}
-use Rattle.acceptor_store_parts.proofs.Words.{ServesFor, StillServes, Stays}
+use Rattle.acceptor_store_parts.proofs.Words.{IsOwnedAt, ServesAt, ServesFor, StillServes, Stays}
 use Rattle.sqlite.specs.Listing.{understood}
 use Rattle.sqlite.specs.State.{CommitsShowing, ExecutesIn, FailsToQuery, IsNotRun, Shown}
 use Rattle.sqlite.specs.Tree.{Trees}
@@ -49,6 +49,15 @@ module _ (owner : Option Owner) (old new : State) (c : Content) (was : ServesFor
         tables = subst (λ (d : Database). AreTablesFor owner d.trees c) (sym now) was.tables;
       }
 
+-- and at the same count
+module _ (owner : Option Owner) (n : ℕ) (old new : State) (c : Content) (was : ServesAt owner n old c) where
+  same_now : Keeps old new → IsTrue new.is_open → new.now ≡ old.now
+  same_now (inl h) opened = h.0.now_is
+  same_now (inr h) opened = (h.undone opened).0 ∙ sym was.serves.settled
+
+  pub still_at : Keeps old new → IsTrue new.is_open → ServesAt owner n new c
+  still_at keeps opened = record { serves = still_serves owner old new c was.serves keeps opened; counted = subst (λ (d : Database). IsOwnedAt owner n d.trees) (sym (same_now keeps opened)) was.counted }
+
 -- what a statement means of the tables of each owner
 abbrev pub AlwaysPlain : List ℕ → Type 0
 AlwaysPlain sql = (owner : Option Owner) → IsPlain (understood (schema_for owner) sql)
@@ -70,15 +79,15 @@ pub all_ok : (sql : List ℕ) (params : Row) (old new : State) → AlwaysPlain s
 unfolding Shown
 all_ok sql params old new plain rows h = (
   shown_open sql _ old new rows h.0 h.0.returning h.2,
-  λ owner c was.
-      let known = sym h.1.is ∙ ap (λ s. understood s sql) was.schema in
+  λ owner n c was.
+      let known = sym h.1.is ∙ ap (λ s. understood s sql) was.serves.schema in
       let bare = subst IsPlain (sym known) (plain owner) in
       let same = (rw bare.0 at h.2).3 in
-      still_serves owner old new c was (inl same) same.0.is_open,
+      still_at owner n old new c was (inl same) same.0.is_open,
 )
 
 pub all_err : (sql : List ℕ) (params : Row) (old new : State) → AlwaysPlain sql → (e : Error) → FailsToQuery sql params old new e → IsTrue new.is_open → StillServes old new
-all_err sql params old new plain e h opened owner c was = still_serves owner old new c was (fails_keeps sql params old new (schema_for owner) was.schema (plain owner) e h) opened
+all_err sql params old new plain e h opened owner n c was = still_at owner n old new c was (fails_keeps sql params old new (schema_for owner) was.serves.schema (plain owner) e h) opened
 
 pub all_result : (sql : List ℕ) (params : Row) (old new : State) → AlwaysPlain sql → {X : Type 0} (r : Result X Error) (rows : X → List Row) → IfOk r (λ x. Shown sql params old new (rows x)) → OnOk r (Stays old new)
 all_result sql params old new plain (Ok x) rows h = all_ok sql params old new plain (rows x) h

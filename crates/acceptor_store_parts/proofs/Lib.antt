@@ -23,3 +23,4 @@ pub mod Casts
 pub mod Owners
 pub mod Tested
 pub mod Fails
+pub mod Counted

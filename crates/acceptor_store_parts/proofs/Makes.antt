@@ -1,6 +1,6 @@
 -- What the texts make that make the tables.
 use Rattle.std.proofs.Common.{◌≡◌, ℕ, ◌/◌, List, [], ◌∷◌, length, map, pos, true, false, Option, Some, None, Ok, Err}
-use Rattle.std.proofs.Common.{Result, OnOk, refl, sym, ap, subst, ◌∙◌, arith}
+use Rattle.std.proofs.Common.{Result, OnOk, IsTrue, inr, lit<, refl, sym, ap, subst, ◌∙◌, arith}
 use Rattle.acceptor_store_parts.proofs.Words.{Row, Schema, Values, Replace, Int, Insert, InsertOr, CreateTable, created}
 use Rattle.acceptor_store_parts.proofs.Words.{next_tree, KeepsRows, Tally, Does, lacks_sequence, put_row, Database}
 use Rattle.acceptor_store_parts.proofs.Words.{value_rows, Term, table_defined_by, State, HasCleanDisk, Survives, Writes}
@@ -11,7 +11,9 @@ use Rattle.acceptor_store_parts.proofs.Words.{AreTablesOf, AreTablesFor, owner_b
 use Rattle.acceptor_store_parts.proofs.Words.{statement_of, survives_begin, survives_then, schema_of, blank_schema}
 use Rattle.acceptor_store_parts.proofs.Words.{ballot_table, vote_table, learned_table, fact_table, ballot_text}
 use Rattle.acceptor_store_parts.proofs.Words.{vote_text, learned_text, fact_text, fact_put, version_put, First, Second}
-use Rattle.acceptor_store_parts.proofs.Words.{Third, ServesFor, HoldsFor}
+use Rattle.acceptor_store_parts.proofs.Words.{Third, AreTablesAt, HoldsAt, HoldsUncounted, IsOwnedAt, NamesOwner, PutsCount}
+use Rattle.acceptor_store_parts.proofs.Words.{ServesAt, count_bytes, first_count}
+use Rattle.ballots.specs.declared.members.Members.TheVariants.{Three}
 use Rattle.sqlite.specs.Tree.{Trees}
 use Rattle.sqlite.specs.Listing.{understood}
 use Rattle.sqlite.specs.Table.{Table}
@@ -21,7 +23,8 @@ use Rattle.acceptor_store_parts.proofs.Meaning.{Means, compiled_as, known, runs,
 use Rattle.acceptor_store_parts.proofs.Meaning.{number_terms, numbers_terms, learned_terms, second_put, second_terms}
 use Rattle.acceptor_store_parts.proofs.Meaning.{create_ballot_is, create_vote_is, create_learned_is, numbers_put_is}
 use Rattle.acceptor_store_parts.proofs.Meaning.{second_put_is, create_fact_is, fact_put_is, version_put_is}
-use Rattle.acceptor_store_parts.proofs.Writes.{PutsRow, cast_number, put_number, put_fact, first_fact, puts_version}
+use Rattle.acceptor_store_parts.proofs.Writes.{PutsRow, cast_number, counts, put_number, put_fact, first_fact}
+use Rattle.acceptor_store_parts.proofs.Writes.{puts_version, still_owned_at}
 use Rattle.acceptor_store_parts.proofs.Puts.{went, same_value}
 
 -- CREATE TABLE adds an empty tree, and keeps the rows of the others
@@ -127,24 +130,34 @@ module _ (text : List ℕ) (terms : List Term) (news : List Row) (is : Means (sc
         },
       )
 
--- a row that one statement puts into a table, in version 3
-module _ (owner : Owner) (old new : State) (count : ℕ) (has : old.now.schema ≡ schema_of Third) where
-  pub puts_fact : Executes fact_put (fact_shown (0, owner_bytes owner)) old new (Ok count) → (new.now.schema ≡ schema_of Third) × PutsRow fact_table old.now.trees new.now.trees (fact_row (0, owner_bytes owner))
-  puts_fact h =
+-- a row that one statement puts into a table, where there is one of facts
+module _ (old new : State) (count : ℕ) (has : old.now.schema ≡ schema_of Third) where
+  pub puts_fact : (owner : Owner) (v : ℕ × List ℕ) → Executes fact_put (fact_shown v) old new (Ok count) → (new.now.schema ≡ schema_of Third) × PutsRow fact_table old.now.trees new.now.trees (fact_row v)
+  puts_fact owner v h =
       let command = InsertOr 3 Replace (Values learned_terms 3) [] in
-      let row = fact_shown (0, owner_bytes owner) in
+      let row = fact_shown v in
       let w = runs fact_put_is _ old new has count h in
       let text = statement_of fact_put (understood (schema_of Third) fact_put) in
       let does = subst (λ s. Does old.step_limit (mode_of old) row (record old.now { schema = s }) text None command (Ok (w.tally, new.now))) has w.changed in
-      put_fact old.step_limit (mode_of old) old.now.trees text w.tally new.now owner (0, owner_bytes owner) does
+      put_fact old.step_limit (mode_of old) old.now.trees text w.tally new.now owner v does
 
-  pub puts_third_number : Executes version_put (Int (pos 3) ∷ []) old new (Ok count) → (new.now.schema ≡ schema_of Third) × PutsRow ballot_table old.now.trees new.now.trees (number_row 2 3)
-  puts_third_number h =
+  pub puts_last_number : (owner : Owner) → Executes version_put (Int (pos 4) ∷ []) old new (Ok count) → (new.now.schema ≡ schema_of Third) × PutsRow ballot_table old.now.trees new.now.trees (number_row 2 4)
+  puts_last_number owner h =
       let command = InsertOr 0 Replace (Values (number_terms 2) 3) [] in
       let w = runs version_put_is _ old new has count h in
       let text = statement_of version_put (understood (schema_of Third) version_put) in
-      let does = subst (λ s. Does old.step_limit (mode_of old) (Int (pos 3) ∷ []) (record old.now { schema = s }) text None command (Ok (w.tally, new.now))) has w.changed in
-      put_number old.step_limit (mode_of old) old.now.trees text w.tally new.now (Some owner) 2 3 does
+      let does = subst (λ s. Does old.step_limit (mode_of old) (Int (pos 4) ∷ []) (record old.now { schema = s }) text None command (Ok (w.tally, new.now))) has w.changed in
+      put_number old.step_limit (mode_of old) old.now.trees text w.tally new.now (Some owner) 2 4 does
+
+-- a count that is put, inside a transaction
+pub puts_count : (old new : State) (count n : ℕ) → IsTrue new.in_transaction → Executes fact_put (fact_shown (1, count_bytes n)) old new (Ok count) → PutsCount n old new
+puts_count old new count n inside h = (
+  inside,
+  λ has.
+      let put = λ (owner : Owner). puts_fact old new count has owner (1, count_bytes n) h in
+      let any : Owner = record { node = 0; members = Three } in
+      ((put any).0, λ tree other. (put any).1.others tree other, λ owner fits names. counts owner old.now.trees new.now.trees n fits names (put owner).1),
+)
 
 -- the tables that are made in a database without any
 pub made_after : (s₀ s₁ s₂ s₃ s₄ : State) (m n k l : ℕ) → s₀.now.schema ≡ blank_schema → Executes ballot_text [] s₀ s₁ (Ok m) → Executes vote_text [] s₁ s₂ (Ok n) → Executes learned_text [] s₂ s₃ (Ok k) → Executes numbers_put [] s₃ s₄ (Ok l)
@@ -162,30 +175,41 @@ raised_after s₀ s₁ s₂ c m n has was one two =
     let a = makes_learned s₀ s₁ m has one in
     inserts second_put second_terms (number_row 2 2 ∷ []) second_put_is refl s₁ s₂ c n a.0 (third_row s₁.now.trees c.tried c.row (a.1 ∙ was.numbers)) (a.2 ∙ was.votes_are) (a.3 ∙ ap (map learned_row) (sym was.learned_are)) was.sound two
 
--- the tables of version 3 that are made of those of version 2
-pub owned_after : (owner : Owner) (s₀ s₁ s₂ s₃ : State) (c : Content) (m n k : ℕ) → s₀.now.schema ≡ schema_for None → AreTablesFor None s₀.now.trees c → Executes fact_text [] s₀ s₁ (Ok m)
-    → Executes fact_put (fact_shown (0, owner_bytes owner)) s₁ s₂ (Ok n) → Executes version_put (Int (pos 3) ∷ []) s₂ s₃ (Ok k) → (s₃.now.schema ≡ schema_for (Some owner)) × AreTablesFor (Some owner) s₃.now.trees c
-owned_after owner s₀ s₁ s₂ s₃ c m n k has was one two three =
+-- tables that name an owner, with a count and the number of version 4, are served for it
+module _ (owner : Owner) (k : ℕ) (s₀ s₁ s₂ : State) (c : Content) (m : ℕ) (has : s₀.now.schema ≡ schema_of Third) (names : NamesOwner owner s₀.now.trees) where
+  pub counted_after : s₀.now.trees 0 ≡ map (λ e. number_row e.0 e.1) (three k c.tried c.row) → s₀.now.trees 1 ≡ map vote_row c.votes → s₀.now.trees 2 ≡ map learned_row c.learned → IsSound c → PutsCount first_count s₀ s₁
+      → Executes version_put (Int (pos 4) ∷ []) s₁ s₂ (Ok m) → HoldsAt (Some owner) first_count s₂.now c
+  counted_after numbers votes learned sound counted two =
+      let a = counted.1 has in
+      let owned = a.2 owner (lit< tt) names in
+      let put = puts_last_number s₁ s₂ m a.0 owner two in
+      let tables = puts_version owner k s₁.now.trees s₂.now.trees c (a.1 0 (λ same. absurd cc) ∙ numbers) (a.1 1 (λ same. absurd cc) ∙ votes) (a.1 2 (λ same. absurd cc) ∙ learned) sound (first_count, owned) put.1 in
+      ((put.0, tables), still_owned_at (Some owner) first_count s₁.now.trees s₂.now.trees (put.1.others 3 (λ same. absurd cc)) owned)
+
+-- the tables of version 4 that are made of those of version 2
+pub owned_after : (owner : Owner) (s₀ s₁ s₂ s₃ s₄ : State) (c : Content) (m n k : ℕ) → s₀.now.schema ≡ schema_for None → AreTablesFor None s₀.now.trees c → Executes fact_text [] s₀ s₁ (Ok m)
+    → Executes fact_put (fact_shown (0, owner_bytes owner)) s₁ s₂ (Ok n) → PutsCount first_count s₂ s₃ → Executes version_put (Int (pos 4) ∷ []) s₃ s₄ (Ok k) → HoldsAt (Some owner) first_count s₄.now c
+owned_after owner s₀ s₁ s₂ s₃ s₄ c m n k has was one two counted four =
     let a = makes_fact s₀ s₁ m has one in
-    let b = puts_fact owner s₁ s₂ n a.0 two in
-    let put = puts_third_number owner s₂ s₃ k b.0 three in
-    let kept : AreTablesFor None s₂.now.trees c = record {
-      numbers = b.1.others 0 (λ same. absurd cc) ∙ (a.1 ∙ was.numbers);
-      votes_are = b.1.others 1 (λ same. absurd cc) ∙ (a.2 ∙ was.votes_are);
-      learned_are = b.1.others 2 (λ same. absurd cc) ∙ (a.3 ∙ was.learned_are);
-      sound = was.sound;
-      owned = tt;
-    } in
-    (put.0, puts_version owner s₂.now.trees s₃.now.trees c kept (first_fact s₁.now.trees s₂.now.trees (0, owner_bytes owner) a.4 b.1) put.1)
+    let b = puts_fact s₁ s₂ n a.0 owner (0, owner_bytes owner) two in
+    counted_after owner 2 s₂ s₃ s₄ c k b.0 (inr (first_fact s₁.now.trees s₂.now.trees (0, owner_bytes owner) a.4 b.1)) (b.1.others 0 (λ same. absurd cc) ∙ (a.1 ∙ was.numbers)) (b.1.others 1 (λ same. absurd cc) ∙ (a.2 ∙ was.votes_are))
+    (b.1.others 2 (λ same. absurd cc) ∙ (a.3 ∙ was.learned_are)) was.sound counted four
+
+-- and of those of version 3
+pub raised_count : (owner : Owner) (s₀ s₁ s₂ : State) (c : Content) (m : ℕ) → HoldsUncounted owner s₀.now c → PutsCount first_count s₀ s₁ → Executes version_put (Int (pos 4) ∷ []) s₁ s₂ (Ok m) → HoldsAt (Some owner) first_count s₂.now c
+raised_count owner s₀ s₁ s₂ c m was counted two = counted_after owner 3 s₀ s₁ s₂ c m was.0 (inr was.1.1) was.1.0.numbers was.1.0.votes_are was.1.0.learned_are was.1.0.sound counted two
 
 -- tables that were committed are served
-pub served_after : (owner : Option Owner) (last end : State) (c : Content) → (last.now.schema ≡ schema_for owner) × AreTablesFor owner last.now.trees c → Shows last end last.now last.now false → ServesFor owner end c
-served_after owner last end c made shows = record {
-  is_open = shows.is_open;
-  autocommit = shows.mode;
-  settled = shows.now_is ∙ sym shows.committed_is;
-  schema = ap (λ (d : Database). d.schema) shows.now_is ∙ made.0;
-  tables = subst (λ (d : Database). AreTablesFor owner d.trees c) (sym shows.now_is) made.1;
+pub served_after : (owner : Option Owner) (n : ℕ) (last end : State) (c : Content) → HoldsAt owner n last.now c → Shows last end last.now last.now false → ServesAt owner n end c
+served_after owner n last end c made shows = record {
+  serves = record {
+    is_open = shows.is_open;
+    autocommit = shows.mode;
+    settled = shows.now_is ∙ sym shows.committed_is;
+    schema = ap (λ (d : Database). d.schema) shows.now_is ∙ made.0.0;
+    tables = subst (λ (d : Database). AreTablesFor owner d.trees c) (sym shows.now_is) made.0.1;
+  };
+  counted = subst (λ (d : Database). IsOwnedAt owner n d.trees) (sym shows.now_is) made.1;
 }
 
 -- what follows inside a transaction commits nothing
@@ -194,14 +218,18 @@ inside_then {a} {b} {c} one two = survives_then a b c _ _ (λ _. ⊥) (λ _ db n
 
 -- a transaction that made tables, and its end
 module _ {S : Type 0} (g : Ghosts S) (conn end : Held S) (mid : State) (Was : Database → Content → Type 0) (owner : Option Owner) (ran : Survives (state g (record conn { in_transaction = true })) mid (λ _. ⊥))
-    (made : HasCleanDisk mid → (c : Content) → Was (state g conn).now c → HoldsFor owner mid.now c) (ends : Survives mid (state g end) (λ db. db ≡ mid.now.trees)) where
-  pub committed : Shows mid (state g end) mid.now mid.now false → HasCleanDisk (state g end) → (c : Content) → Was (state g conn).now c → ServesFor owner (state g end) c
-  committed shows clean c was = served_after owner mid (state g end) c (made (omega (arith, ends.clean, clean)) c was) shows
+    (made : HasCleanDisk mid → (c : Content) → Was (state g conn).now c → HoldsAt owner first_count mid.now c) (ends : Survives mid (state g end) (λ db. db ≡ mid.now.trees)) where
+  pub committed : Shows mid (state g end) mid.now mid.now false → HasCleanDisk (state g end) → (c : Content) → Was (state g conn).now c → ServesAt owner first_count (state g end) c
+  committed shows clean c was = served_after owner first_count mid (state g end) c (made (omega (arith, ends.clean, clean)) c was) shows
 
-  pub may_commit : Survives (state g conn) (state g end) (λ db. (c : Content) → Was (state g conn).now c → AreTablesFor owner db c)
+  pub may_commit : Survives (state g conn) (state g end) (λ db. (c : Content) → Was (state g conn).now c → AreTablesAt owner first_count db c)
   may_commit = survives_then (state g conn) mid (state g end) (λ _. ⊥) (λ db. db ≡ mid.now.trees) _ (λ _ db no. absurd no)
-      (λ clean db is c was. subst (λ t. AreTablesFor owner t c) (sym is) (made (omega (arith, ends.clean, clean)) c was).1) (survives_begin g conn mid _ ran) ends
+      (λ clean db is c was. let it = made (omega (arith, ends.clean, clean)) c was in subst (λ t. AreTablesAt owner first_count t c) (sym is) (it.0.1, it.1)) (survives_begin g conn mid _ ran) ends
 
 pub on_ok : {T E A B : Type 0} (r : Result T E) → OnOk r A → (A → B) → OnOk r B
 on_ok (Ok x) h f = f h
 on_ok (Err e) h f = tt
+
+pub both : {T E A B C : Type 0} (r : Result T E) → OnOk r A → OnOk r B → (A → B → C) → OnOk r C
+both (Ok x) h k f = f h k
+both (Err e) h k f = tt

@@ -6,7 +6,7 @@ use Rattle.acceptor_store_parts.proofs.Words.{Eq, Ge, Binary, misses_table, Row,
 use Rattle.acceptor_store_parts.proofs.Words.{Compiled, Command, Replace, Select, Insert, InsertOr, CreateTable}
 use Rattle.acceptor_store_parts.proofs.Words.{table_defined_by, Schema, Values, Null, Int, Query, inner, end, Term, lit}
 use Rattle.acceptor_store_parts.proofs.Words.{col, op2, IsPlain, command_of, statement_of, runs_as, reads_as, Version}
-use Rattle.acceptor_store_parts.proofs.Words.{First, Second, Third, Owner, KeepsLearned, schema_for, Asked, VoteAt}
+use Rattle.acceptor_store_parts.proofs.Words.{First, Second, Third, Fourth, Owner, KeepsLearned, schema_for, Asked, VoteAt}
 use Rattle.acceptor_store_parts.proofs.Words.{VotesFrom, LearnedAt, LearnedFrom, schema_of, blank_schema, ballot_table}
 use Rattle.acceptor_store_parts.proofs.Words.{vote_table, learned_table, fact_table, ballot_text, vote_text}
 use Rattle.acceptor_store_parts.proofs.Words.{learned_text, fact_text, tried_put, promised_put, vote_put, learned_put}
@@ -143,6 +143,7 @@ unfolding everything
 all_learned_is First keeps = absurd keeps
 all_learned_is Second keeps = record { is = refl }
 all_learned_is Third keeps = record { is = refl }
+all_learned_is Fourth keeps = record { is = refl }
 
 abbrev pub facts_meaning : Query
 facts_meaning = rows_query 3 [] two_columns
@@ -159,6 +160,7 @@ unfolding everything
 numbers_query_is First = record { is = refl }
 numbers_query_is Second = record { is = refl }
 numbers_query_is Third = record { is = refl }
+numbers_query_is Fourth = record { is = refl }
 
 abbrev pub ballot_schema : Schema
 ballot_schema = record { tables = ballot_table ∷ []; indexes = []; views = [] }
@@ -215,3 +217,4 @@ unfolding everything
 all_votes_query_is First = record { is = refl }
 all_votes_query_is Second = record { is = refl }
 all_votes_query_is Third = record { is = refl }
+all_votes_query_is Fourth = record { is = refl }

@@ -1,7 +1,7 @@
 -- The numbers, as the query shows them.
 use Rattle.std.proofs.Common.{◌≡◌, ℕ, pos, List, [], ◌∷◌, Result, refl, IfOk, lit<}
 use Rattle.acceptor_store_parts.proofs.Words.{IfOk-weaker, Content, Error, Null, Int, Row, overlay, State, Version}
-use Rattle.acceptor_store_parts.proofs.Words.{First, Second, Third, numbers_query, number_shown, numbers_of}
+use Rattle.acceptor_store_parts.proofs.Words.{First, Second, Third, Fourth, numbers_query, number_shown, numbers_of}
 use Rattle.acceptor_store_parts.proofs.Words.{numbers_shown, three, ServesAs}
 use Rattle.sqlite.specs.State.{Shown}
 use Rattle.acceptor_store_parts.proofs.Meaning.{two_columns, numbers_query_is, reads}
@@ -19,6 +19,7 @@ pub numbers_rise : (version : Version) (tried row : ℕ) → IsRisingBy (λ (e :
 numbers_rise First tried row = ((lit< tt, tt), (tt, tt))
 numbers_rise Second tried row = three_rise 2 tried row
 numbers_rise Third tried row = three_rise 3 tried row
+numbers_rise Fourth tried row = three_rise 4 tried row
 
 reads_numbers : (version : Version) (old new : State) (c : Content) (was : ServesAs version old c) (rows : List Row) → Shown numbers_query [] old new rows → rows ≡ numbers_shown version c.tried c.row
 reads_numbers version old new c was rows h =
@@ -33,3 +34,4 @@ pub same_numbers : (version : Version) (a b tried row : ℕ) → numbers_shown v
 same_numbers First a b tried row e = let one : a ≡ tried = cc in let two : b ≡ row = cc in (one, two)
 same_numbers Second a b tried row e = let one : a ≡ tried = cc in let two : b ≡ row = cc in (one, two)
 same_numbers Third a b tried row e = let one : a ≡ tried = cc in let two : b ≡ row = cc in (one, two)
+same_numbers Fourth a b tried row e = let one : a ≡ tried = cc in let two : b ≡ row = cc in (one, two)

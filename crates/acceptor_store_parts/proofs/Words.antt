@@ -3,15 +3,19 @@ pub use Rattle.acceptor.proofs.Callers.{rows_put, values_put}
 pub use Rattle.acceptor.specs.Content.{AreRowsFrom, AreValues, Content, IsSound, Write, after_write, no_content}
 pub use Rattle.acceptor.specs.Content.Write.{Learns, Promises, Votes}
 pub use Rattle.acceptor_store_parts.specs.Asked.{shown_of}
-pub use Rattle.acceptor_store_parts.specs.Batch.{HasWrittenAll, MayHaveWrittenAll, PutsAllInside, PutsInside}
-pub use Rattle.acceptor_store_parts.specs.Making.{HoldsFirst, HoldsFor, IsBlank, IsMade, Makes, MayBeMade, Was}
-pub use Rattle.acceptor_store_parts.specs.Making.{owner_then}
-pub use Rattle.acceptor_store_parts.specs.Owned.{AreTablesFor, IsOwnedBy, OwnedBy, number_for, owner_bytes, schema_for}
-pub use Rattle.acceptor_store_parts.specs.Owned.{version_for}
-pub use Rattle.acceptor_store_parts.specs.Rowids.{AreByRowid, AreShaped, ShowsFacts, ShowsLearned, ShowsNumbers}
-pub use Rattle.acceptor_store_parts.specs.Rowids.{ShowsVotes}
-pub use Rattle.acceptor_store_parts.specs.Serves.{DoesNotServe, HasWritten, MayHaveWritten, Serves, ServesAs, ServesFor}
-pub use Rattle.acceptor_store_parts.specs.Serves.{Stays, StillServes}
+pub use Rattle.acceptor_store_parts.specs.Batch.{CountsInside, HasWrittenAll, LeadsInside, MayHaveWrittenAll, PutsAllInside}
+pub use Rattle.acceptor_store_parts.specs.Batch.{PutsInside, Wrote}
+pub use Rattle.acceptor_store_parts.specs.Counts.{HasCount, IsCountOf, ShowsCount}
+pub use Rattle.acceptor_store_parts.specs.Making.{HoldsAt, HoldsFirst, HoldsFor, HoldsUncounted, IsBlank, IsMade}
+pub use Rattle.acceptor_store_parts.specs.Making.{Makes, MayBeMade, PutsCount, Was, first_count, owner_then}
+pub use Rattle.acceptor_store_parts.specs.Owned.{AreOwnedBy, AreTablesAt, AreTablesFor, AreUncounted, IsCount}
+pub use Rattle.acceptor_store_parts.specs.Owned.{IsNext, IsOwnedAt, IsOwnedBy, IsOwner, NamesOwner, OwnedAt}
+pub use Rattle.acceptor_store_parts.specs.Owned.{OwnedBefore, OwnedBy, count_bytes, facts_of, number_for, owner_bytes}
+pub use Rattle.acceptor_store_parts.specs.Owned.{schema_for, version_for}
+pub use Rattle.acceptor_store_parts.specs.Rowids.{AreByRowid, AreShaped, HasFactTable, ShowsFacts, ShowsLearned}
+pub use Rattle.acceptor_store_parts.specs.Rowids.{ShowsNumbers, ShowsVotes}
+pub use Rattle.acceptor_store_parts.specs.Serves.{DoesNotServe, HasWritten, MayHaveWritten, Serves, ServesAs, ServesAt}
+pub use Rattle.acceptor_store_parts.specs.Serves.{ServesFor, Stays, StillServes}
 pub use Rattle.acceptor_store_parts.specs.Stored.{AreTablesOf, HasLearned, IsCast, IsLearned, KeepsLearned, fact_row}
 pub use Rattle.acceptor_store_parts.specs.Stored.{fact_shown, first_of, learned_row, learned_shown, number_row}
 pub use Rattle.acceptor_store_parts.specs.Stored.{number_shown, numbers_of, numbers_shown, three, vote_row, vote_shown}
@@ -22,7 +26,7 @@ pub use Rattle.acceptor_store_parts.specs.Tables.{schema_of, strict_table, tried
 pub use Rattle.acceptor_store_parts.specs.Tables.{vote_text}
 pub use Rattle.acceptor_store_parts.specs.Tests.{IsFault, IsShutBy, tells_open}
 pub use Rattle.acceptor_store_parts.specs.declared.Version.{Version}
-pub use Rattle.acceptor_store_parts.specs.declared.Version.TheVariants.{First, Second, Third}
+pub use Rattle.acceptor_store_parts.specs.declared.Version.TheVariants.{First, Second, Third, Fourth}
 pub use Rattle.acceptor_store_parts.specs.declared.owner.Owner.{Owner}
 pub use Rattle.acceptor_store_parts.specs.declared.reads.Asked.{Asked}
 pub use Rattle.acceptor_store_parts.specs.declared.reads.Asked.TheVariants.{LearnedAt, LearnedFrom, VoteAt, VotesFrom}

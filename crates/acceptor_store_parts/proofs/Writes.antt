@@ -1,14 +1,16 @@
 -- What the writes of the records make of the tables.
 use Rattle.std.proofs.Common.{◌≡◌, ◌≢◌, inl, inr, ℕ, ℤ, pos, List, [], ◌∷◌, ◌++◌, ◌/◌, length, map, filter, nat_lt}
-use Rattle.std.proofs.Common.{false, Some, None, Option, Ok, refl, ap, subst, ◌∙◌}
-use Rattle.acceptor_store_parts.proofs.Words.{Cast, IsPlace, IsValue, rows_put, values_put, Content, after_write}
+use Rattle.std.proofs.Common.{false, Some, None, Option, Ok, refl, ap, subst, ◌∙◌, lit<}
+use Rattle.acceptor_store_parts.proofs.Words.{Cast, IsPlace, IsValue, rows_put, values_put, Content, IsSound}
+use Rattle.acceptor_store_parts.proofs.Words.{after_write}
 use Rattle.acceptor_store_parts.proofs.Words.{Promises, Votes, Learns, Replace, Refusal, cast_row, without_all}
 use Rattle.acceptor_store_parts.proofs.Words.{with_rowid, AreConflicts, ids_of, InsertOr, Values, Int, Mode, Row}
 use Rattle.acceptor_store_parts.proofs.Words.{put_row, Database, value_rows, Term, Tally, Does, OnRows, stamped, Counts}
 use Rattle.acceptor_store_parts.proofs.Words.{mended, rowids_for, Written, Task, Judged, Upserts, TriesEach, nothing}
 use Rattle.acceptor_store_parts.proofs.Words.{count_of, Owner, ballot_table, vote_table, learned_table, fact_table}
 use Rattle.acceptor_store_parts.proofs.Words.{number_row, vote_row, learned_row, fact_row, vote_shown, learned_shown}
-use Rattle.acceptor_store_parts.proofs.Words.{fact_shown, three, AreTablesFor, IsOwnedBy, owner_bytes, number_for}
+use Rattle.acceptor_store_parts.proofs.Words.{fact_shown, three, AreTablesFor, IsCount, IsOwnedAt, IsOwnedBy, NamesOwner}
+use Rattle.acceptor_store_parts.proofs.Words.{OwnedAt, OwnedBy, count_bytes, facts_of, number_for, owner_bytes}
 use Rattle.acceptor_store_parts.proofs.Words.{schema_for}
 use Rattle.acceptor.specs.Content.Write.{Tries as Tried}
 use Rattle.sqlite_rules.specs.declared.error.Rowids.TheVariants.{Chosen}
@@ -16,6 +18,7 @@ use Rattle.sqlite.specs.Table.{Table}
 use Rattle.sqlite.specs.Tree.{Trees}
 use Rattle.sqlite.specs.Rows.{Tries}
 use Rattle.acceptor_store_parts.proofs.Meaning.{number_terms, vote_terms, learned_terms}
+use Rattle.acceptor_store_parts.proofs.Rising.{IsRisingBy}
 use Rattle.acceptor_store_parts.proofs.Rows.{replaced}
 use Rattle.acceptor_store_parts.proofs.Places.{rising, placed_is}
 use Rattle.acceptor_store_parts.proofs.Numbers.{three_rise}
@@ -107,7 +110,11 @@ module _ (limit : Option ℕ) (mode : Mode) (db : Trees) (text : List ℕ) (tall
 -- another tree keeps the owner's row
 still_owned : (owner : Option Owner) (db next : Trees) → next 3 ≡ db 3 → IsOwnedBy owner db → IsOwnedBy owner next
 still_owned None db next same was = tt
-still_owned (Some owner) db next same was = same ∙ was
+still_owned (Some owner) db next same (n, was) = (n, (was.0, same ∙ was.1))
+
+pub still_owned_at : (owner : Option Owner) (n : ℕ) (db next : Trees) → next 3 ≡ db 3 → IsOwnedAt owner n db → IsOwnedAt owner n next
+still_owned_at None n db next same was = tt
+still_owned_at (Some owner) n db next same was = (was.0, same ∙ was.1)
 
 -- the rows of the numbers, once one was put
 numbers_put : (n : ℕ) (db next : Trees) (tried row id b : ℕ) → db 0 ≡ map (λ e. number_row e.0 e.1) (three n tried row) → PutsRow ballot_table db next (number_row id b)
@@ -171,12 +178,27 @@ first_fact db next v none h =
     h.rows ∙ (ap (λ rows. put_row (fact_row v) (without_all rows (ids_of h.found))) none
     ∙ replaced (λ (w : ℕ × List ℕ). w.0) fact_row (λ w. refl) fact_table v [] h.found tt all)
 
--- version 2 becomes version 3
-pub puts_version : (owner : Owner) (db next : Trees) (c : Content) → AreTablesFor None db c → db 3 ≡ fact_row (0, owner_bytes owner) ∷ [] → PutsRow ballot_table db next (number_row 2 3) → AreTablesFor (Some owner) next c
-puts_version owner db next c was owned h = record {
-  numbers = numbers_put 2 db next c.tried c.row 2 3 was.numbers h;
-  votes_are = h.others 1 (λ same. absurd cc) ∙ was.votes_are;
-  learned_are = h.others 2 (λ same. absurd cc) ∙ was.learned_are;
-  sound = was.sound;
-  owned = h.others 3 (λ same. absurd cc) ∙ owned;
-}
+-- the row of the count, which is put behind the owner's or in place of the one before
+counts_facts : (facts : List (ℕ × List ℕ)) (db next : Trees) (n : ℕ) → IsRisingBy (λ (v : ℕ × List ℕ). v.0) facts → db 3 ≡ map fact_row facts → PutsRow fact_table db next (fact_row (1, count_bytes n))
+    → next 3 ≡ map fact_row (filter (λ y. nat_lt y.0 1) facts ++ (1, count_bytes n) ∷ filter (λ y. nat_lt 1 y.0) facts)
+counts_facts facts db next n rises are h =
+    let row : ℕ × List ℕ = (1, count_bytes n) in
+    let all = subst (λ rows. AreConflicts None [] fact_table rows (fact_row row) h.found) are h.conflict in
+    h.rows ∙ (ap (λ rows. put_row (fact_row row) (without_all rows (ids_of h.found))) are
+    ∙ replaced (λ (w : ℕ × List ℕ). w.0) fact_row (λ w. refl) fact_table row facts h.found rises all)
+
+pub counts : (owner : Owner) (db next : Trees) (n : ℕ) → IsCount n → NamesOwner owner db → PutsRow fact_table db next (fact_row (1, count_bytes n)) → OwnedAt owner n next
+counts owner db next n fits (inl was) h = (fits, counts_facts (facts_of owner was.0) db next n ((lit< tt, tt), (tt, tt)) was.1.1 h)
+counts owner db next n fits (inr was) h = (fits, counts_facts ((0, owner_bytes owner) ∷ []) db next n (tt, tt) was h)
+
+-- an owner's tables of another version become those of version 4
+module _ (owner : Owner) (k : ℕ) (db next : Trees) (c : Content) where
+  pub puts_version : db 0 ≡ map (λ e. number_row e.0 e.1) (three k c.tried c.row) → db 1 ≡ map vote_row c.votes → db 2 ≡ map learned_row c.learned → IsSound c → OwnedBy owner db → PutsRow ballot_table db next (number_row 2 4)
+      → AreTablesFor (Some owner) next c
+  puts_version numbers votes learned sound owned h = record {
+    numbers = numbers_put k db next c.tried c.row 2 4 numbers h;
+    votes_are = h.others 1 (λ same. absurd cc) ∙ votes;
+    learned_are = h.others 2 (λ same. absurd cc) ∙ learned;
+    sound = sound;
+    owned = still_owned (Some owner) db next (h.others 3 (λ same. absurd cc)) owned;
+  }

@@ -1,5 +1,5 @@
 -- Databases that no node wrote.
-use Rattle.std.specs.Prelude.{◌≡◌, ◌⊎◌, ℕ, List, codes, Some, None, IsSome, slice_get}
+use Rattle.std.specs.Prelude.{◌≡◌, ◌⊎◌, ℕ, List, codes, None, IsSome, slice_get, Some}
 use Rattle.acceptor.specs.Content.{Content}
 use Rattle.sqlite.specs.Tree.{Trees}
 use Rattle.sqlite.specs.Table.{Table}
@@ -10,7 +10,7 @@ use Rattle.acceptor_store_parts.specs.declared.Version.TheVariants.{Third}
 use Rattle.acceptor_store_parts.specs.declared.owner.Owner.{Owner}
 use Rattle.acceptor_store_parts.specs.Tables.{schema_of}
 use Rattle.acceptor_store_parts.specs.Stored.{AreTablesOf, IsOfNode}
-use Rattle.acceptor_store_parts.specs.Owned.{AreTablesFor, IsOwner}
+use Rattle.acceptor_store_parts.specs.Owned.{AreOwnedBy, IsOwner}
 
 -- a table of this name is there, or none is
 abbrev pub HasTable : Schema → List ℕ → Type 0
@@ -73,8 +73,8 @@ IsUnowned s = HasNone s (codes "fact") × (IsBroken s → ⊥) × HasTable s (co
 
 -- the tables hold no content that a node writes as its owner
 abbrev pub HoldsNoneOwned : Trees → Type 0
-HoldsNoneOwned db = (owner : Owner) (c : Content) → IsOwner owner → AreTablesFor (Some owner) db c → IsOfNode c → ⊥
+HoldsNoneOwned db = (owner : Owner) (c : Content) → IsOwner owner → AreOwnedBy owner db c → IsOfNode c → ⊥
 
--- no node wrote it as its owner: by its schema, or by its rows where the schema is that of version 3
+-- no node wrote it as its owner: by its schema, or by its rows where the schema is that of versions 3 and 4
 abbrev pub IsForeignOwned : Schema → Trees → Type 0
 IsForeignOwned s db = IsBroken s ⊎ ((s ≡ schema_of Third) × HoldsNoneOwned db)

@@ -6,16 +6,24 @@ use Rattle.sqlite.specs.Effect.{IsDatabase}
 use Rattle.sqlite.specs.State.{State, Opens, IsLive}
 use Rattle.sqlite_trees.specs.Tree.{Trees, IsTable}
 use Rattle.acceptor_store_parts.specs.declared.Version.{Version}
-use Rattle.acceptor_store_parts.specs.declared.Version.TheVariants.{First, Second, Third}
+use Rattle.acceptor_store_parts.specs.declared.Version.TheVariants.{First, Second, Third, Fourth}
 use Rattle.acceptor_store_parts.specs.Tables.{schema_of}
 use Rattle.acceptor_store_parts.specs.Stored.{number_row, number_shown, vote_row, vote_shown, learned_row}
 use Rattle.acceptor_store_parts.specs.Stored.{learned_shown, fact_row, fact_shown, KeepsLearned}
+
+-- the version has a table of facts
+abbrev pub HasFactTable : Version → Type 0
+HasFactTable First = ⊥
+HasFactTable Second = ⊥
+HasFactTable Third = Unit {0}
+HasFactTable Fourth = Unit {0}
 
 -- the trees of the version's tables are tables
 abbrev pub AreShaped : Version → Trees → Type 0
 AreShaped First db = IsTable (db 0) × IsTable (db 1)
 AreShaped Second db = IsTable (db 0) × IsTable (db 1) × IsTable (db 2)
 AreShaped Third db = IsTable (db 0) × IsTable (db 1) × IsTable (db 2) × IsTable (db 3)
+AreShaped Fourth db = IsTable (db 0) × IsTable (db 1) × IsTable (db 2) × IsTable (db 3)
 
 -- a connection was opened over its store, where the trees of the version's tables are tables
 pub record IsReread (version : Version) (s : State) : Type 0 where

@@ -1,5 +1,5 @@
 -- A connection that serves the records.
-use Rattle.std.specs.Prelude.{◌≡◌, false, IsTrue, Option, Some, Result, Ok, Err}
+use Rattle.std.specs.Prelude.{◌≡◌, ℕ, ◌+◌, false, IsTrue, Option, Some, Result, Ok, Err}
 use Rattle.sqlite.specs.State.{State}
 use Rattle.sqlite.specs.Tree.{Trees}
 use Rattle.acceptor.specs.Content.{Content, Write, after_write}
@@ -9,7 +9,7 @@ use Rattle.acceptor_store_parts.specs.Stops.{LeavesOpen}
 use Rattle.acceptor_store_parts.specs.declared.Version.{Version}
 use Rattle.acceptor_store_parts.specs.declared.owner.Owner.{Owner}
 use Rattle.acceptor_store_parts.specs.Stored.{AreTablesOf}
-use Rattle.acceptor_store_parts.specs.Owned.{AreTablesFor, schema_for}
+use Rattle.acceptor_store_parts.specs.Owned.{AreTablesAt, AreTablesFor, IsNext, IsOwnedAt, schema_for}
 
 -- it is open, outside a transaction, and its tables of this version hold the content
 pub record ServesAs (version : Version) (s : State) (c : Content) : Type 0 where
@@ -27,13 +27,18 @@ pub record ServesFor (owner : Option Owner) (s : State) (c : Content) : Type 0 w
   pub schema : s.now.schema ≡ schema_for owner
   pub tables : AreTablesFor owner s.now.trees c
 
+-- at this count
+pub record ServesAt (owner : Option Owner) (n : ℕ) (s : State) (c : Content) : Type 0 where
+  pub serves : ServesFor owner s c
+  pub counted : IsOwnedAt owner n s.now.trees
+
 -- whoever's the records are
 abbrev pub Serves : State → Content → Type 0
 Serves s c = (owner : Option Owner) × ServesFor owner s c
 
--- what it served before, it serves, and for the same owner
+-- what it served before, it serves, for the same owner and at the same count
 abbrev pub StillServes : State → State → Type 0
-StillServes old new = (owner : Option Owner) (c : Content) → ServesFor owner old c → ServesFor owner new c
+StillServes old new = (owner : Option Owner) (n : ℕ) (c : Content) → ServesAt owner n old c → ServesAt owner n new c
 
 -- it serves no content
 abbrev pub DoesNotServe : State → Type 0
@@ -47,13 +52,15 @@ IsOther s = (version : Version) → s.now.schema ≡ schema_of version → ⊥
 abbrev pub Stays : State → State → Type 0
 Stays old new = IsTrue old.is_open × StillServes old new
 
--- it serves what it served, with this write, and for the same owner
-abbrev pub HasWritten : State → State → Write → Type 0
-HasWritten old new write = (owner : Option Owner) (c : Content) → ServesFor owner old c → ServesFor owner new (after_write c (Some write))
+-- it serves what it served, with this write, for the same owner, and counts one more: where that is the count to write
+abbrev pub HasWritten : Option ℕ → State → State → Write → Type 0
+HasWritten next old new write =
+    (owner : Option Owner) (n : ℕ) (c : Content) → IsNext owner n next → ServesAt owner n old c → ServesAt owner (n + 1) new (after_write c (Some write))
 
--- the trees are what it served, with this write, and of the same owner
-abbrev pub MayHaveWritten : State → Write → Trees → Type 0
-MayHaveWritten old write db = (owner : Option Owner) (c : Content) → ServesFor owner old c → AreTablesFor owner db (after_write c (Some write))
+-- the trees are what it served, with this write, of the same owner and at one more
+abbrev pub MayHaveWritten : Option ℕ → State → Write → Trees → Type 0
+MayHaveWritten next old write db =
+    (owner : Option Owner) (n : ℕ) (c : Content) → IsNext owner n next → ServesAt owner n old c → AreTablesAt owner (n + 1) db (after_write c (Some write))
 
 -- the connection is open still
 abbrev pub StaysOpen : {T : Type 0} → Result T Stop → Type 0

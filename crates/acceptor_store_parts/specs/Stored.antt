@@ -9,7 +9,7 @@ use Rattle.sqlite.specs.declared.types.Value.TheVariants.{Null, Int, Blob}
 use Rattle.sqlite.specs.Order.{Row}
 use Rattle.sqlite.specs.Tree.{Trees}
 use Rattle.acceptor_store_parts.specs.declared.Version.{Version}
-use Rattle.acceptor_store_parts.specs.declared.Version.TheVariants.{First, Second, Third}
+use Rattle.acceptor_store_parts.specs.declared.Version.TheVariants.{First, Second, Third, Fourth}
 
 -- the key of a row is its rowid, and the column of the key is NULL
 abbrev pub number_row : ℕ → ℕ → Row
@@ -53,6 +53,7 @@ abbrev pub numbers_of : Version → ℕ → ℕ → List (ℕ × ℕ)
 numbers_of First tried row = (0, tried) ∷ (1, row) ∷ []
 numbers_of Second tried row = three 2 tried row
 numbers_of Third tried row = three 3 tried row
+numbers_of Fourth tried row = three 4 tried row
 
 -- the same as a query shows them
 abbrev pub numbers_shown : Version → ℕ → ℕ → List Row
@@ -63,12 +64,14 @@ abbrev pub KeepsLearned : Version → Type 0
 KeepsLearned First = ⊥
 KeepsLearned Second = Unit {0}
 KeepsLearned Third = Unit {0}
+KeepsLearned Fourth = Unit {0}
 
 -- in version 1 nothing is learned, and from version 2 on tree 2 is the table of learned values
 abbrev pub HasLearned : Version → Trees → Content → Type 0
 HasLearned First db c = c.learned ≡ []
 HasLearned Second db c = db 2 ≡ map learned_row c.learned
 HasLearned Third db c = db 2 ≡ map learned_row c.learned
+HasLearned Fourth db c = db 2 ≡ map learned_row c.learned
 
 -- tables of a version: tree 0 is that of numbers, and tree 1 that of votes; of facts it says nothing
 pub record AreTablesOf (version : Version) (db : Trees) (c : Content) : Type 0 where

@@ -8,7 +8,7 @@ use Rattle.sqlite.specs.Kind.{Kind}
 use Rattle.sqlite.specs.Kind.TheVariants.{Integer, Blob}
 use Rattle.sqlite_schema.specs.declared.schema.Column.{Column}
 use Rattle.acceptor_store_parts.specs.declared.Version.{Version}
-use Rattle.acceptor_store_parts.specs.declared.Version.TheVariants.{First, Second, Third}
+use Rattle.acceptor_store_parts.specs.declared.Version.TheVariants.{First, Second, Third, Fourth}
 
 -- the texts that make the tables
 abbrev pub ballot_text : List ℕ
@@ -58,11 +58,12 @@ abbrev pub fact_table : Table
 fact_table = strict_table (codes "fact") 3 (column (codes "id") Integer false ∷ column (codes "bytes") Blob true ∷ [])
 
 -- version 1 has the tables of ballots and votes alone, version 2 that of learned values beside them, and version 3 that
--- of facts too
+-- of facts too; those of version 4 are the same, with a further row
 abbrev pub schema_of : Version → Schema
 schema_of First = record { tables = ballot_table ∷ vote_table ∷ []; indexes = []; views = [] }
 schema_of Second = record { tables = ballot_table ∷ vote_table ∷ learned_table ∷ []; indexes = []; views = [] }
 schema_of Third = record { tables = ballot_table ∷ vote_table ∷ learned_table ∷ fact_table ∷ []; indexes = []; views = [] }
+schema_of Fourth = record { tables = ballot_table ∷ vote_table ∷ learned_table ∷ fact_table ∷ []; indexes = []; views = [] }
 
 -- the schema of no table
 abbrev pub blank_schema : Schema

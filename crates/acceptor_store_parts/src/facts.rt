@@ -1,9 +1,9 @@
-//! The table of facts, which tells whose a database is.
+//! The table of facts, which tells whose a database is, and how many transactions it has counted.
 
-ghost use Rattle.std.specs.Prelude.{◌≡◌, [], ◌∷◌, IfErr, IfNone, IfOk, IfSome, OnOk, Some};
+ghost use Rattle.std.specs.Prelude.{◌≡◌, ℕ, [], ◌∷◌, map, IfErr, IfNone, IfOk, IfSome, OnOk, Some};
 ghost use Rattle.sqlite.specs.State.{HasCleanDisk, Survives, IsUnchanged};
 ghost use Rattle.sqlite.specs.Held.{state};
-ghost use Rattle.acceptor_store_parts.specs.Owned.{IsOwner, OwnedBy, owner_bytes};
+ghost use Rattle.acceptor_store_parts.specs.Owned.{IsOwner, OwnedAt, OwnedBefore, facts_of, owner_bytes};
 ghost use Rattle.acceptor_store_parts.specs.Rowids.{ShowsFacts};
 ghost use Rattle.acceptor_store_parts.specs.Stored.{fact_shown};
 ghost use Rattle.acceptor_store_parts.specs.Tables.{schema_of};
@@ -17,8 +17,12 @@ use sqlite::{Alter, Connection, Error, Row};
 /// All rows of the table of facts, whatever they are.
 pub fn query_facts<S: Alter>(conn: &mut Connection<S>) -> Result<Vec<Row>, Error>
     ensures held { HasCleanDisk (state S.Store conn.new) → IfOk result (λ rows. ShowsFacts (state S.Store conn.old) rows.items) }
-    ensures value { HasCleanDisk (state S.Store conn.new) → IfOk result (λ rows. (owner : Owner) → (state S.Store conn.old).now.schema ≡ schema_of Version.Third
-        → OwnedBy owner (state S.Store conn.old).now.trees → rows.items ≡ fact_shown (0, owner_bytes owner) ∷ []) }
+    ensures value { HasCleanDisk (state S.Store conn.new) → IfOk result (λ rows. (owner : Owner) (n : ℕ)
+        → (state S.Store conn.old).now.schema ≡ schema_of Version.Fourth → OwnedAt owner n (state S.Store conn.old).now.trees
+        → rows.items ≡ map fact_shown (facts_of owner n)) }
+    ensures before { HasCleanDisk (state S.Store conn.new) → IfOk result (λ rows. (owner : Owner)
+        → (state S.Store conn.old).now.schema ≡ schema_of Version.Third
+        → OwnedBefore owner (state S.Store conn.old).now.trees → rows.items ≡ fact_shown (0, owner_bytes owner) ∷ []) }
     ensures same { HasCleanDisk (state S.Store conn.new) → (state S.Store conn.old).now.schema ≡ schema_of Version.Third
         → OnOk result (IsUnchanged (state S.Store conn.old) (state S.Store conn.new)) }
     ensures fails { HasCleanDisk (state S.Store conn.new) → (state S.Store conn.old).now.schema ≡ schema_of Version.Third
@@ -30,7 +34,7 @@ pub fn query_facts<S: Alter>(conn: &mut Connection<S>) -> Result<Vec<Row>, Error
 }
 
 /// The owner that the row shows, if it is any's.
-fn shown_owner(row: &Row) -> Option<Owner>
+pub fn shown_owner(row: &Row) -> Option<Owner>
     ensures some { IfSome result (λ owner. row.now ≡ fact_shown (0, owner_bytes owner)) }
     ensures fits { IfSome result IsOwner }
     ensures none { IfNone result ((owner : Owner) → IsOwner owner → row.now ≡ fact_shown (0, owner_bytes owner) → ⊥) }
@@ -44,7 +48,7 @@ fn shown_owner(row: &Row) -> Option<Owner>
     }
 }
 
-/// The owner, where the rows show it and nothing else.
+/// The owner, where the rows show it and nothing else, as in version 3.
 pub fn read_owner(rows: &[Row]) -> Option<Owner>
     ensures some { IfSome result (λ owner. rows.now ≡ fact_shown (0, owner_bytes owner) ∷ []) }
     ensures fits { IfSome result IsOwner }

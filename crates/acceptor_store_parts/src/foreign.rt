@@ -40,7 +40,7 @@ fn is_part(schema: &Schema) -> bool
 }
 
 /// The table of this name, where there is one.
-fn find_table<'a>(schema: &'a Schema, name: &[u8]) -> Option<&'a Table>
+pub(crate) fn find_table<'a>(schema: &'a Schema, name: &[u8]) -> Option<&'a Table>
     ensures some { IfSome result (λ t. (at : ℕ) × (table_named schema.now name.now ≡ Some at) × (slice_get schema.now.tables at ≡ Some t.now)) }
     ensures none { IfNone result ((at : ℕ) (t : _) → table_named schema.now name.now ≡ Some at → slice_get schema.now.tables at ≡ Some t → ⊥) }
 {

@@ -2,6 +2,7 @@
 #![tactic(auto)]
 
 mod batch;
+mod counting;
 mod declared;
 mod facts;
 mod foreign;
@@ -12,6 +13,7 @@ mod owner;
 mod reads;
 mod rereading;
 mod writing;
+mod wrong;
 
 ghost use Rattle.std.specs.Prelude.{◌≡◌, ℕ, pos, true, false, IfOk, IfErr, Ok, OnOk, OnErr, Some};
 ghost use Rattle.sqlite.specs.State.{CommitsBy, Executes, HasCleanDisk, Survives, IsUnchanged};
@@ -26,6 +28,7 @@ ghost use Rattle.acceptor_store_parts.specs.Stored.{IsNumber};
 
 use ballots::{Ballot, Place, Value};
 pub use batch::put_rows;
+pub use counting::{FIRST_COUNT, bytes_of_count, count_of, read_count, read_facts};
 pub use declared::is_column;
 pub use facts::{query_facts, read_owner};
 pub use foreign::{has_facts, is_broken, is_foreign, is_unowned};
@@ -39,14 +42,17 @@ use sqlite::types::ValueRef;
 use sqlite::{Alter, Connection, Error, ErrorCode};
 use std::alloc::{AllocError, AllocFailed};
 pub use writing::{Put, put_row};
+pub use wrong::{NodeTable, WrongPart, has_wrong_learned, has_wrong_votes, wrong_part};
 
 /// What tables there are: those of ballots and votes alone in the first version, that of learned
-/// values beside them in the second, and in the third that of facts, which tells the owner.
+/// values beside them in the second, and in the third that of facts, which tells the owner. In the
+/// fourth it has the count of transactions too.
 #[derive(Clone, Copy, Debug, PartialEq, Eq)]
 pub enum Version {
     First,
     Second,
     Third,
+    Fourth,
 }
 
 fn signed(ballot: Ballot) -> i64

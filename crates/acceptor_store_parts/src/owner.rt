@@ -1,4 +1,4 @@
-//! Whose a database of version 3 is.
+//! Whose a database of version 3 or 4 is.
 
 ghost use Rattle.std.specs.Prelude.{◌≡◌, IfNone, IfSome};
 ghost use Rattle.ballots.specs.Members.{member_count};
@@ -20,7 +20,7 @@ pub fn version_of_owner(owner: Option<Owner>) -> Version
 {
     match owner {
         None => Version::Second,
-        Some(_) => Version::Third,
+        Some(_) => Version::Fourth,
     }
 }
 

@@ -24,12 +24,12 @@ const AFTER: &str = "8 24 1 24 [3] 2 24 [4, 5]";
 /// The same with the learned values.
 const AFTER_WHOLE: &str = "8 24 1 24 [3] 2 24 [4, 5] learned 1 [3]";
 
-fn node() -> Result<NodeId, Fail> {
+pub fn node() -> Result<NodeId, Fail> {
     Ok(NodeId::new(1).ok_or("a node")?)
 }
 
 /// A ballot tried and promised, two votes at one place, one at another, and a learned value.
-fn six(node: NodeId) -> Result<[WriteBytes; 6], Fail> {
+pub fn six(node: NodeId) -> Result<[WriteBytes; 6], Fail> {
     let low = ballot(16)?;
     let high = ballot(24)?;
     let first = place(1)?;

@@ -6,9 +6,13 @@ mod acceptor_rows;
 #[cfg(test)]
 mod batches;
 #[cfg(test)]
+mod counts;
+#[cfg(test)]
 mod files;
 #[cfg(test)]
 mod kinds;
+#[cfg(test)]
+mod makings;
 #[cfg(test)]
 mod owners;
 #[cfg(test)]

@@ -17,15 +17,19 @@ use std::test::Fail;
 
 /// Tables of version 2: tried 16, the promised row 18, and a vote of ballot 17 for the byte 65 at
 /// place 1.
-const SECOND: &str =
+pub const SECOND: &str =
     "CREATE TABLE ballot (id INTEGER PRIMARY KEY, number INTEGER NOT NULL) STRICT; CREATE TABLE vote (place INTEGER PRIMARY KEY, ballot INTEGER NOT NULL, value BLOB NOT NULL) STRICT; CREATE TABLE learned (place INTEGER PRIMARY KEY, value BLOB NOT NULL) STRICT; INSERT INTO ballot (id, number) VALUES (0, 16), (1, 18), (2, 2); INSERT INTO vote (place, ballot, value) VALUES (1, 17, x'41')";
 
 /// What makes version 3 of them, of node 1 of three.
-const THIRD: &str =
+pub const THIRD: &str =
     "CREATE TABLE fact (id INTEGER PRIMARY KEY, bytes BLOB NOT NULL) STRICT; INSERT INTO fact VALUES (0, x'0103'); UPDATE ballot SET number = 3 WHERE id = 2";
 
+/// What makes version 4 of those.
+const FOURTH: &str =
+    "INSERT INTO fact VALUES (1, x'0000000000000001'); UPDATE ballot SET number = 4 WHERE id = 2";
+
 /// What they hold.
-const HELD: &str = "16 18 1 17 [65]";
+pub const HELD: &str = "16 18 1 17 [65]";
 
 /// What fresh records hold.
 const EMPTY: &str = "0 0";
@@ -34,8 +38,8 @@ const FOREIGN: Option<Refusal> = Some(Refusal::Open(OpenFault::Foreign));
 
 const REFUSED: Option<Refusal> = Some(Refusal::Open(OpenFault::Refused));
 
-/// A database without tables, one of version 2 and one of version 3, and how each is opened.
-static OPENED: [Row; 12] = [
+/// A database without tables, and one of each version from the second on, and how each is opened.
+static OPENED: [Row; 16] = [
     (["", "", "", ""], Way::Plain, None),
     (["", "", "", ""], Way::New, None),
     (["", "", "", ""], Way::Old, Some(Refusal::Blank)),
@@ -48,6 +52,10 @@ static OPENED: [Row; 12] = [
     ([SECOND, THIRD, "", ""], Way::New, None),
     ([SECOND, THIRD, "", ""], Way::Old, None),
     ([SECOND, THIRD, "", ""], Way::Adopt, None),
+    ([SECOND, THIRD, FOURTH, ""], Way::Plain, FOREIGN),
+    ([SECOND, THIRD, FOURTH, ""], Way::New, None),
+    ([SECOND, THIRD, FOURTH, ""], Way::Old, None),
+    ([SECOND, THIRD, FOURTH, ""], Way::Adopt, None),
 ];
 
 #[test]
@@ -55,8 +63,8 @@ fn each_version_in_each_way(rt: HostRuntime) -> Result<(), Fail> {
     open_so(&rt, rt.alloc(), &OPENED)
 }
 
-/// Changes of a database of version 3, and how it is opened then.
-static CHANGED: [Row; 13] = [
+/// Changes of a database of version 3 or 4, and how it is opened then.
+static CHANGED: [Row; 17] = [
     (
         [SECOND, THIRD, "UPDATE fact SET bytes = x'0104'", ""],
         Way::Old,
@@ -88,6 +96,41 @@ static CHANGED: [Row; 13] = [
         FOREIGN,
     ),
     ([SECOND, THIRD, "DELETE FROM fact", ""], Way::Old, FOREIGN),
+    (
+        [
+            SECOND,
+            THIRD,
+            "UPDATE ballot SET number = 4 WHERE id = 2",
+            "",
+        ],
+        Way::Old,
+        FOREIGN,
+    ),
+    (
+        [
+            SECOND,
+            THIRD,
+            FOURTH,
+            "UPDATE ballot SET number = 3 WHERE id = 2",
+        ],
+        Way::Old,
+        FOREIGN,
+    ),
+    (
+        [
+            SECOND,
+            THIRD,
+            FOURTH,
+            "UPDATE fact SET bytes = x'01' WHERE id = 1",
+        ],
+        Way::Old,
+        FOREIGN,
+    ),
+    (
+        [SECOND, THIRD, FOURTH, "DELETE FROM fact WHERE id = 0"],
+        Way::Old,
+        FOREIGN,
+    ),
     (
         [
             SECOND,
@@ -172,7 +215,7 @@ struct TellsOwned<'a> {
     before: Refusal,
 }
 
-fn is_held(content: &str, held: &str) -> Result<bool, Fail> {
+pub fn is_held(content: &str, held: &str) -> Result<bool, Fail> {
     if content == held {
         Ok(true)
     } else {

@@ -241,7 +241,7 @@ impl TellsKinds for TellsVersions {
         match reopened(alloc, files)? {
             (Version::First, _) => Ok(false),
             (Version::Second, _) => Ok(true),
-            (Version::Third, _) => Err(Fail::new("it has an owner")),
+            (Version::Third | Version::Fourth, _) => Err(Fail::new("it has an owner")),
         }
     }
 }

@@ -2,6 +2,7 @@ use Rattle.std.proofs.Common.{refl}
 use Rattle.acceptor_store.proofs.Words.{Content, IsSound}
 use Rattle.acceptor_store.proofs.Failing.{linked_unread}
 use Rattle.acceptor_store.proofs.Calls.{entered, value, same, kept, trust}
+use Rattle.acceptor_store.proofs.Words.{Memory}
 use Rattle.acceptor_store.proofs.SqlRecords.find.Goals as goal
 
 pub returns-in-Ok-clause-value : goal.returns-in-Ok-clause-value
@@ -31,3 +32,7 @@ returns-in-Err-clause-trust g c =
 pub invariant_of-self-in-Err : goal.invariant_of-self-in-Err
 invariant_of-self-in-Err g c =
     linked_unread g.S.Store c.self.inside.was.value c.find.new.conn c.in-Err.stop c.in-Some.is c.self.invariant c.if-not-self.false c.end-in-Err.ensures.up c.find.ensures.survives (λ clean leaves. c.in-Err.ensures.stays clean leaves)
+
+pub invariant_of-self-in-Ok : goal.invariant_of-self-in-Ok
+invariant_of-self-in-Ok g c =
+    linked_unread g.S.Store c.self.inside.was.value c.find.new.conn Memory c.in-Some.is c.self.invariant c.if-not-self.false refl c.find.ensures.survives (λ clean _. c.in-Ok.ensures.stays clean tt)

@@ -18,7 +18,7 @@ returns-in-Err-clause-trust g c =
 
 pub returns-in-Ok-clause-writes : goal.returns-in-Ok-clause-writes
 returns-in-Ok-clause-writes g c =
-    written g.S.Store g.met.S.Store.settled g.met.S.Store.stays (entered g.S.Store c.self.view_is c.self.inside.conn c.self.inside.was.value refl c.in-Some.is c.self.invariant c.if-not-self.false) c.written.new.conn (write_of c.args.put.now) c.written.ensures.survives _ c.in-Ok.ensures.ok
+    written g.S.Store g.met.S.Store.settled g.met.S.Store.stays (entered g.S.Store c.self.view_is c.self.inside.conn c.self.inside.was.value refl c.in-Some.is c.self.invariant c.if-not-self.false) c.written.new.conn (write_of c.args.put.now) c.written.ensures.survives _ _ c.in-Ok.ensures.ok
 
 pub returns-in-Err-clause-writes : goal.returns-in-Err-clause-writes
 returns-in-Err-clause-writes g c =

@@ -1,6 +1,5 @@
 use Rattle.std.proofs.Common.{refl}
-use Rattle.acceptor_store_parts.specs.Batch.{MayHaveWrittenAll}
-use Rattle.acceptor_store.proofs.Words.{state}
+use Rattle.acceptor_store.proofs.Words.{MayHaveCountedAll, state}
 use Rattle.acceptor_store.proofs.AllWritten.{all_written, linked_all, none_written}
 use Rattle.acceptor_store.proofs.Calls.{entered, trust}
 use Rattle.acceptor_store.proofs.Failing.{linked_failed}
@@ -20,7 +19,7 @@ returns-in-Err-clause-trust g c =
 
 pub returns-in-Ok-clause-writes : goal.returns-in-Ok-clause-writes
 returns-in-Ok-clause-writes g c =
-    all_written g.S.Store g.met.S.Store.settled g.met.S.Store.stays (entered g.S.Store c.self.view_is c.self.inside.conn c.self.inside.was.value refl c.in-Some.is c.self.invariant c.if-not-self.false) c.all_written.new.conn c.args.id c.args.writes.now c.all_written.ensures.survives _ c.in-Ok.ensures.ok
+    all_written g.S.Store g.met.S.Store.settled g.met.S.Store.stays (entered g.S.Store c.self.view_is c.self.inside.conn c.self.inside.was.value refl c.in-Some.is c.self.invariant c.if-not-self.false) c.all_written.new.conn c.args.id c.args.writes.now c.all_written.ensures.survives _ _ c.in-Ok.ensures.ok
 
 pub returns-in-Err-clause-writes : goal.returns-in-Err-clause-writes
 returns-in-Err-clause-writes g c =
@@ -30,4 +29,4 @@ returns-in-Err-clause-writes g c =
 pub invariant_of-self-in-Err : goal.invariant_of-self-in-Err
 invariant_of-self-in-Err g c =
     linked_failed g.S.Store c.self.inside.was.value c.all_written.new.conn c.in-Err.stop c.in-Some.is c.self.invariant c.if-not-self.false c.end-in-Err.ensures.up
-    (MayHaveWrittenAll c.args.id c.args.writes.now (state g.S.Store c.in-Some.conn)) (λ db wrote x was. let all = wrote _ x was in ∣ (all.0, all.2) ∣₁) c.all_written.ensures.survives (λ clean leaves. c.in-Err.ensures.err clean leaves)
+    (MayHaveCountedAll c.self.inside.owner c.self.inside.numbers.count c.args.id c.args.writes.now (state g.S.Store c.in-Some.conn)) (λ db wrote x was. let all = wrote x was in ∣ (all.0, all.2.2.0) ∣₁) c.all_written.ensures.survives (λ clean leaves. c.in-Err.ensures.err clean leaves)

@@ -3,6 +3,7 @@ use Rattle.acceptor.specs.Content.{greatest}
 use Rattle.ballots.specs.declared.letters.Cast.{Cast}
 use Rattle.acceptor_store.proofs.Words.{number_of, greatest_beside}
 use Rattle.acceptor_store.proofs.Beside.{put_beside, raised_row, raised_vote}
+use Rattle.acceptor_store.proofs.Words.{err_from_is_err_and}
 use Rattle.acceptor_store.proofs.known.numbers_with.Goals as goal
 
 pub returns-in-Tried-clause-value : goal.returns-in-Tried-clause-value
@@ -33,3 +34,11 @@ returns-in_ok-_tried-in-Vote-clause-value g c clean d was known =
 
 pub returns-in-Learned-clause-value : goal.returns-in-Learned-clause-value
 returns-in-Learned-clause-value g c clean d was known = rw c.in-Learned.is (record { tries = known.tries; promises = known.promises })
+
+pub returns-in_err-_tried-in-Promised-clause-stays : goal.returns-in_err-_tried-in-Promised-clause-stays
+returns-in_err-_tried-in-Promised-clause-stays g c clean = let p = err_from_is_err_and c.from_residual.result c.from_residual.ensures.1 in rw (p.1, p.2) (c.in_err-_tried-in-Promised.ensures.stays clean)
+
+pub returns-in_err-_tried-in-Vote-clause-stays : goal.returns-in_err-_tried-in-Vote-clause-stays
+returns-in_err-_tried-in-Vote-clause-stays g c clean =
+    let p = err_from_is_err_and c.from_residual-in_err-_tried-in-Vote.result c.from_residual-in_err-_tried-in-Vote.ensures.1 in
+    rw (p.1, p.2) (c.in_err-_tried-in-Vote.ensures.stays clean)

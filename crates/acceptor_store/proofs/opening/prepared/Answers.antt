@@ -1,6 +1,6 @@
 use Rattle.std.proofs.Common.{inl, Err, refl, sym, ap, subst, ◌∙◌, inr}
-use Rattle.acceptor_store.proofs.Words.{IfErr-weaker, IfOk-weaker, no_content, IsForeignSchema, HasFurther}
-use Rattle.acceptor_store.proofs.Reopening.{always, not_third}
+use Rattle.acceptor_store.proofs.Words.{IfErr-weaker, IfOk-weaker, no_content, IsForeignSchema, HasFurther, first_count}
+use Rattle.acceptor_store.proofs.Reopening.{always, unowned_version}
 use Rattle.acceptor_store.proofs.opening.prepared.Goals as goal
 
 pub returns-in-Ok-judged-clause-foreign : goal.returns-in-Ok-judged-clause-foreign
@@ -25,7 +25,7 @@ pub returns-in-Ok-judged-clause-whole : goal.returns-in-Ok-judged-clause-whole
 returns-in-Ok-judged-clause-whole g c = IfErr-weaker c.brought_up.result _ _ (λ e h clean. h clean (sym c.schema-2.ensures.value ∙ c.in-Ok-judged.ensures.own)) c.brought_up.ensures.whole
 
 pub brought_up-requires : goal.brought_up-requires
-brought_up-requires g c = record { unowned = not_third _ c.in-Ok-judged.version c.in-Ok-judged.ensures.own c.in-Ok-judged.ensures.ours }
+brought_up-requires g c = record { unowned = unowned_version _ c.in-Ok-judged.version c.in-Ok-judged.ensures.own c.in-Ok-judged.ensures.ours }
 
 pub returns-in-Ok-judged-clause-ours : goal.returns-in-Ok-judged-clause-ours
 returns-in-Ok-judged-clause-ours g c = always c.brought_up.result (λ foreign. c.in-Ok-judged.ensures.ours (subst IsForeignSchema (sym c.schema-2.ensures.value) foreign))
@@ -44,9 +44,9 @@ returns-in-Err-judged-clause-refused g c refused clean = inr (inl (
 pub returns-in-Ok-clause-tables : goal.returns-in-Ok-clause-tables
 returns-in-Ok-clause-tables g c clean =
     let blank = sym c.schema.ensures.value ∙ c.if-is_blank.ensures.yes refl in
-    (no_content, inl (blank, refl), c.in-Ok.ensures.made clean no_content (blank, refl), c.none.ensures)
+    (no_content, inl (blank, refl), (first_count, c.none.ensures.count, c.in-Ok.ensures.made clean no_content (blank, refl)), c.none.ensures.content)
 
 pub returns-in-Err-clause-whole : goal.returns-in-Err-clause-whole
 returns-in-Err-clause-whole g c sure db may =
     let blank = sym c.schema.ensures.value ∙ c.if-is_blank.ensures.yes refl in
-    elim (c.in-Err.ensures.left sure db may) [ inl before ↦ inl before | inr made ↦ inr (no_content, inl (blank, refl), made no_content (blank, refl)) ]
+    elim (c.in-Err.ensures.left sure db may) [ inl before ↦ inl before | inr made ↦ inr (no_content, inl (blank, refl), (made no_content (blank, refl)).0) ]

@@ -25,9 +25,9 @@ returns-in-Err-clause-whole g c sure db may = left_plain g.S.Store c.args.owner.
 pub returns-in-Ok-make-clause-tables : goal.returns-in-Ok-make-clause-tables
 returns-in-Ok-make-clause-tables g c clean =
     let mid : HasCleanDisk (state g.S.Store c.in-Ok.found.0) = omega (arith, c.in-Ok-make.ensures.clean, clean) in
-    adopts_plain g.S.Store c.args.owner.now c.args.conn c.in-Ok.found.0 c.in-Ok-make.owned c.in-Ok.found.1
+    adopts_plain g.S.Store c.args.owner.now c.args.conn c.in-Ok.found.0 c.in-Ok-make.owned c.in-Ok.found.1 c.at.result
     (λ facts. absurd (let e = c.if-has_facts.ensures.all (subst HasFacts (sym c.schema-2.ensures.value) facts) in cc))
-    (λ blank. absurd (let e = c.if-is_blank.ensures.all (c.schema.ensures.value ∙ blank) in cc)) (c.in-Ok.ensures.tables mid) (c.in-Ok-make.ensures.made clean)
+    (λ blank. absurd (let e = c.if-is_blank.ensures.all (c.schema.ensures.value ∙ blank) in cc)) (c.in-Ok.ensures.tables mid) (c.in-Ok-make.ensures.made clean) c.at.ensures.ballots c.at.ensures.count
 
 pub returns-in-Err-make-clause-due : goal.returns-in-Err-make-clause-due
 returns-in-Err-make-clause-due g c sure = store_due_before g.S.Store c.args.owner.now c.args.conn c.stopped.result c.stopped.ensures.ours

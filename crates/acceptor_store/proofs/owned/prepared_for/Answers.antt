@@ -1,22 +1,19 @@
 use Rattle.std.proofs.Common.{refl, sym, subst, ◌∙◌, inl, inr, Err, ap}
-use Rattle.acceptor_store.proofs.Words.{IfErr-weaker, IfOk-weaker, no_content, IsBroken, IsUnowned, HasFurtherAs}
-use Rattle.acceptor_store.proofs.Claiming.{claimed_clean, claimed_due, claimed_left, claimed_refused, claimed_tables}
+use Rattle.acceptor_store.proofs.Words.{IfErr-weaker, IfOk-weaker, no_content, IsBroken, IsUnowned, HasFurtherAs, first_count}
 use Rattle.acceptor_store.proofs.Owning.{prepares_for, schema_due}
 use Rattle.acceptor_store.proofs.owned.prepared_for.Goals as goal
 
+pub taken_for-requires : goal.taken_for-requires
+taken_for-requires g c = sym c.schema-2.ensures.value ∙ c.in-Ok-judged.ensures.own
+
 pub returns-in-Ok-judged-clause-tables : goal.returns-in-Ok-judged-clause-tables
-returns-in-Ok-judged-clause-tables g c =
-    IfOk-weaker c.claimed.result _ _ (λ x h clean. prepares_for g.S.Store c.args.owner.now c.args.is_new c.args.conn x.0 x.1 (h clean (sym c.schema-2.ensures.value ∙ c.in-Ok-judged.ensures.own))) (claimed_tables g.S.Store c.args.owner.now c.args.conn c.reread_owned.result c.claimed.result c.claimed.ensures c.reread_owned.ensures.tables)
+returns-in-Ok-judged-clause-tables g c = IfOk-weaker c.taken_for.result _ _ (λ x h clean. prepares_for g.S.Store c.args.owner.now c.args.is_new c.args.conn x.0 x.1 (h clean)) c.taken_for.ensures.tables
 
 pub returns-in-Ok-judged-clause-due : goal.returns-in-Ok-judged-clause-due
-returns-in-Ok-judged-clause-due g c =
-    claimed_due g.S.Store c.args.owner.now c.args.conn c.args.is_new c.reread_owned.result c.claimed.result c.claimed.ensures (sym c.schema-2.ensures.value ∙ c.in-Ok-judged.ensures.own) c.reread_owned.ensures.tables c.reread_owned.ensures.foreign
-
-pub returns-in-Ok-judged-clause-clean : goal.returns-in-Ok-judged-clause-clean
-returns-in-Ok-judged-clause-clean g c = claimed_clean g.S.Store c.args.owner.now c.args.conn c.reread_owned.result c.claimed.result c.claimed.ensures c.reread_owned.ensures.clean
+returns-in-Ok-judged-clause-due g c = IfErr-weaker c.taken_for.result _ _ (λ e h clean. h clean c.args.is_new) c.taken_for.ensures.due
 
 pub returns-in-Ok-judged-clause-whole : goal.returns-in-Ok-judged-clause-whole
-returns-in-Ok-judged-clause-whole g c = IfErr-weaker c.claimed.result _ _ (λ e h clean db may. inl (h clean db may)) (claimed_left g.S.Store c.args.owner.now c.args.conn c.reread_owned.result c.claimed.result c.claimed.ensures c.reread_owned.ensures.leaves c.reread_owned.ensures.left)
+returns-in-Ok-judged-clause-whole g c = IfErr-weaker c.taken_for.result _ _ (λ e h clean db may. elim (h clean db may) [ inl before ↦ inl before | inr made ↦ inr (inr made) ]) c.taken_for.ensures.whole
 
 pub returns-in-Ok-judged-clause-broken : goal.returns-in-Ok-judged-clause-broken
 returns-in-Ok-judged-clause-broken g c free broken = absurd (let e = c.in-Ok-judged.ensures.broken (subst IsBroken (sym c.schema-2.ensures.value) broken) in cc)
@@ -42,7 +39,7 @@ returns-in-Err-judged-clause-further g c free further =
     c.in-Err-judged.ensures.further it.0 it.1 it.2
 
 pub returns-in-Ok-judged-clause-refused : goal.returns-in-Ok-judged-clause-refused
-returns-in-Ok-judged-clause-refused g c = IfErr-weaker c.claimed.result _ _ (λ e h refused clean. inr (inr (inr (h refused clean)))) (claimed_refused g.S.Store c.args.owner.now c.args.conn c.reread_owned.result c.claimed.result c.claimed.ensures c.reread_owned.ensures.refused)
+returns-in-Ok-judged-clause-refused g c = IfErr-weaker c.taken_for.result _ _ (λ e h refused clean. elim (h refused clean) [ inl count ↦ inr (inr (inl (inr count))) | inr fails ↦ inr (inr (inr fails)) ]) c.taken_for.ensures.refused
 
 pub returns-in-Err-judged-clause-refused : goal.returns-in-Err-judged-clause-refused
 returns-in-Err-judged-clause-refused g c refused clean =
@@ -57,9 +54,9 @@ returns-in-Err-judged-clause-refused g c refused clean =
 pub returns-in-Ok-clause-tables : goal.returns-in-Ok-clause-tables
 returns-in-Ok-clause-tables g c clean =
     let blank = sym c.schema.ensures.value ∙ c.if-is_blank.ensures.yes refl in
-    (no_content, inl (blank, c.if-not-is_new.false, refl), c.in-Ok.ensures.made clean no_content (blank, refl), c.none.ensures)
+    (no_content, inl (blank, c.if-not-is_new.false, refl), (first_count, c.none.ensures.count, c.in-Ok.ensures.made clean no_content (blank, refl)), c.none.ensures.content)
 
 pub returns-in-Err-clause-whole : goal.returns-in-Err-clause-whole
 returns-in-Err-clause-whole g c sure db may =
     let blank = sym c.schema.ensures.value ∙ c.if-is_blank.ensures.yes refl in
-    elim (c.in-Err.ensures.left sure db may) [ inl before ↦ inl before | inr made ↦ inr (blank, c.if-not-is_new.false, made no_content (blank, refl)) ]
+    elim (c.in-Err.ensures.left sure db may) [ inl before ↦ inl before | inr made ↦ inr (inl (blank, c.if-not-is_new.false, (made no_content (blank, refl)).0)) ]

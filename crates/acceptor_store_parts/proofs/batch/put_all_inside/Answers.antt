@@ -8,7 +8,7 @@ use Rattle.acceptor_store_parts.proofs.batch.put_all_inside.Goals as goal
 pub loop-bytes-init : goal.loop-bytes-init
 loop-bytes-init g c = record {
   reference = refl;
-  put = λ clean inside. (inside, λ owner x was. (x, refl, was));
+  put = λ clean inside. (inside, λ owner n x was. (x, refl, was));
   kept = λ clean inside. keeps_same _;
   survives = survives_same _;
 }

@@ -6,7 +6,7 @@ use Rattle.node_writes.specs.Writes.{value_in}
 use Rattle.acceptor_store_parts.proofs.batch.put_inside.Goals as goal
 
 pub returns-in-Nothing-clause-put : goal.returns-in-Nothing-clause-put
-returns-in-Nothing-clause-put g c clean inside = rw c.in-Nothing.is (inside, λ owner x was. was)
+returns-in-Nothing-clause-put g c clean inside = rw c.in-Nothing.is (inside, λ owner n x was. was)
 
 pub returns-in-Nothing-clause-kept : goal.returns-in-Nothing-clause-kept
 returns-in-Nothing-clause-kept g c clean inside = keeps_same _

@@ -1,6 +1,6 @@
 use Rattle.acceptor_store_parts.proofs.Words.{state, survives_weaker, Third, facts_query, schema_of}
 use Rattle.acceptor_store_parts.proofs.Meaning.{two_columns, facts_is, plain}
-use Rattle.acceptor_store_parts.proofs.Owners.{owner_shown}
+use Rattle.acceptor_store_parts.proofs.Owners.{count_shown, owner_shown}
 use Rattle.acceptor_store_parts.proofs.Raw.{facts_are_shown}
 use Rattle.acceptor_store_parts.proofs.Kept.{all_same, writes_none}
 use Rattle.acceptor_store_parts.proofs.Fails.{facts_typed, all_fail}
@@ -12,6 +12,10 @@ returns-clause-held g c clean =
 
 pub returns-clause-value : goal.returns-clause-value
 returns-clause-value g c clean =
+    count_shown (state g.S.Store c.args.conn.now) (state g.S.Store c.query_all.new.self) c.query_all.result (λ x. x.items) (c.query_all.ensures.ok clean)
+
+pub returns-clause-before : goal.returns-clause-before
+returns-clause-before g c clean =
     owner_shown (state g.S.Store c.args.conn.now) (state g.S.Store c.query_all.new.self) c.query_all.result (λ x. x.items) (c.query_all.ensures.ok clean)
 
 pub returns-clause-same : goal.returns-clause-same

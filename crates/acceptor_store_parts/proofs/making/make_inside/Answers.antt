@@ -12,7 +12,7 @@ returns-clause-made g c clean inside =
     let ran₂ = c.in_ok-execute-2.ensures.runs clean₂ ran₁.1.mode in
     let ran₃ = c.in_ok-execute-3.ensures.runs clean₃ ran₂.1.mode in
     let ran₄ = c.in_ok-execute-4.ensures.runs clean ran₃.1.mode in
-    (ran₄.1.mode, λ x was. subst (HoldsFor None (state g.S.Store c.execute-4.new.self.conn.now).now) (sym was.1) (made_after (state g.S.Store c.args.tx.now.conn.now) (state g.S.Store c.execute.new.self.conn.now) (state g.S.Store c.execute-2.new.self.conn.now) (state g.S.Store c.execute-3.new.self.conn.now) (state g.S.Store c.execute-4.new.self.conn.now) c.in_ok-execute.field-0 c.in_ok-execute-2.field-0 c.in_ok-execute-3.field-0 c.in_ok-execute-4.field-0 was.0 ran₁.0 ran₂.0 ran₃.0 ran₄.0))
+    (ran₄.1.mode, λ x was. (subst (HoldsFor None (state g.S.Store c.execute-4.new.self.conn.now).now) (sym was.1) (made_after (state g.S.Store c.args.tx.now.conn.now) (state g.S.Store c.execute.new.self.conn.now) (state g.S.Store c.execute-2.new.self.conn.now) (state g.S.Store c.execute-3.new.self.conn.now) (state g.S.Store c.execute-4.new.self.conn.now) c.in_ok-execute.field-0 c.in_ok-execute-2.field-0 c.in_ok-execute-3.field-0 c.in_ok-execute-4.field-0 was.0 ran₁.0 ran₂.0 ran₃.0 ran₄.0), tt))
 
 pub returns-clause-survives : goal.returns-clause-survives
 returns-clause-survives g c = inside_then (inside_then (inside_then c.execute.ensures.survives c.execute-2.ensures.survives) c.execute-3.ensures.survives) c.execute-4.ensures.survives

@@ -13,3 +13,7 @@ returns-in-Second-clause-none c =
 pub returns-in-Third-clause-none : goal.returns-in-Third-clause-none
 returns-in-Third-clause-none c =
     subst (λ v. IfNone c.two_before-in-Third.result ((tried row : ℕ) → IsNumber tried → IsNumber row → c.args.rows.now ≡ numbers_shown v tried row → ⊥)) (sym c.in-Third.is) c.two_before-in-Third.ensures.none
+
+pub returns-in-Fourth-clause-none : goal.returns-in-Fourth-clause-none
+returns-in-Fourth-clause-none c =
+    subst (λ v. IfNone c.two_before-in-Fourth.result ((tried row : ℕ) → IsNumber tried → IsNumber row → c.args.rows.now ≡ numbers_shown v tried row → ⊥)) (sym c.in-Fourth.is) c.two_before-in-Fourth.ensures.none

@@ -5,7 +5,7 @@ use Rattle.sqlite.specs.State.{CommitsShowing}
 use Rattle.sqlite.specs.Tree.{Trees}
 use Rattle.acceptor_store_parts.specs.Asked.{text_of}
 use Rattle.acceptor_store_parts.proofs.Answered.{asked_found, asked_plain}
-use Rattle.acceptor_store_parts.proofs.Kept.{all_ok, all_err, still_serves, writes_none}
+use Rattle.acceptor_store_parts.proofs.Kept.{all_ok, all_err, still_at, writes_none}
 use Rattle.acceptor_store_parts.proofs.reads.query_at.Goals as goal
 
 -- a query of what is served writes nothing
@@ -23,12 +23,12 @@ returns-in-Ok-clause-stays g c clean _ =
     (all_ok (text_of c.args.asked) _ (state g.S.Store c.args.conn.now) (state g.S.Store c.query_all.new.self) (asked_plain c.args.asked) c.in-Ok.rows.items (rw c.text_of.ensures at (c.in-Ok.ensures.ok clean))).1
 
 pub returns-in-Err-clause-stays : goal.returns-in-Err-clause-stays
-returns-in-Err-clause-stays g c clean leaves owner x was =
+returns-in-Err-clause-stays g c clean leaves owner n x was =
     let mid = state g.S.Store c.query_all.new.self in
     let sure : HasCleanDisk mid = omega (arith, c.stop_for.ensures.survives.clean, clean) in
     let up = c.stop_for.ensures.up clean leaves in
-    let there = all_err (text_of c.args.asked) _ (state g.S.Store c.args.conn.now) mid (asked_plain c.args.asked) c.in-Err.error (rw c.text_of.ensures at (c.in-Err.ensures.err sure)) up.0.was_open owner x was in
-    still_serves owner mid (state g.S.Store c.stop_for.new.conn) x there (inl up) up.0.is_open
+    let there = all_err (text_of c.args.asked) _ (state g.S.Store c.args.conn.now) mid (asked_plain c.args.asked) c.in-Err.error (rw c.text_of.ensures at (c.in-Err.ensures.err sure)) up.0.was_open owner n x was in
+    still_at owner n mid (state g.S.Store c.stop_for.new.conn) x there (inl up) up.0.is_open
 
 pub returns-in-Ok-clause-survives : goal.returns-in-Ok-clause-survives
 returns-in-Ok-clause-survives g c =

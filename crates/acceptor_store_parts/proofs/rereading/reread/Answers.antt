@@ -1,15 +1,16 @@
 use Rattle.std.proofs.Common.{◌≡◌, false, refl, sym, ap, subst, ◌∙◌, arith}
 use Rattle.acceptor_store_parts.proofs.Words.{Database, IsTable, IsShaped, IsClean, is_open_now, Version, First, Second}
-use Rattle.acceptor_store_parts.proofs.Words.{Third, AreShaped, KeepsLearned}
+use Rattle.acceptor_store_parts.proofs.Words.{Third, Fourth, AreShaped, HasFactTable, KeepsLearned}
 use Rattle.sqlite_trees.specs.Tree.{Trees}
 use Rattle.sqlite_trees.specs.declared.store.Shape.TheVariants.{Table}
 use Rattle.acceptor_store_parts.proofs.rereading.reread.Goals as goal
 
 -- the trees of a version's tables are tables
-shaped : (version : Version) (db : Trees) → IsTable (db 0) → IsTable (db 1) → (KeepsLearned version → IsTable (db 2)) → (version ≡ Third → IsTable (db 3)) → AreShaped version db
+shaped : (version : Version) (db : Trees) → IsTable (db 0) → IsTable (db 1) → (KeepsLearned version → IsTable (db 2)) → (HasFactTable version → IsTable (db 3)) → AreShaped version db
 shaped First db numbers votes learned facts = (numbers, votes)
 shaped Second db numbers votes learned facts = (numbers, votes, learned tt)
-shaped Third db numbers votes learned facts = (numbers, votes, learned tt, facts refl)
+shaped Third db numbers votes learned facts = (numbers, votes, learned tt, facts tt)
+shaped Fourth db numbers votes learned facts = (numbers, votes, learned tt, facts tt)
 
 pub returns-in-Ok-clause-committed : goal.returns-in-Ok-clause-committed
 returns-in-Ok-clause-committed g c clean =
@@ -26,7 +27,7 @@ returns-in-Ok-clause-committed g c clean =
     let numbers = subst (λ (t : Trees). IsTable (t 0)) (sym trees) (subst (λ s. IsShaped s (v.trees 0)) first (ordered 0)).0 in
     let votes = subst (λ (t : Trees). IsTable (t 1)) (sym trees) (subst (λ s. IsShaped s (v.trees 1)) second (ordered 1)).0 in
     let learned = λ (keeps : KeepsLearned c.args.version). subst (λ s. IsShaped s (v.trees 2)) (c.if-not-has_further.ensures.learned refl keeps) (ordered 2) in
-    let facts = λ (is : c.args.version ≡ Third). subst (λ s. IsShaped s (v.trees 3)) (c.if-not-has_further.ensures.facts refl is) (ordered 3) in (
+    let facts = λ (is : HasFactTable c.args.version). subst (λ s. IsShaped s (v.trees 3)) (c.if-not-has_further.ensures.facts refl is) (ordered 3) in (
       record {
         opens = opening.0;
         live = opening.1;
