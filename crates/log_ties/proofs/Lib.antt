@@ -1,3 +1,4 @@
+pub mod CommitLemmas
 mod EndLemmas
 mod ReadLemmas
 mod TieLemmas

@@ -12,6 +12,7 @@ use Rattle.sqlite_wal.proofs.PartLemmas.{slice_index-part}
 use Rattle.sqlite_wal.proofs.RecoveryLemmas.{replays_once}
 use Rattle.log_ties.specs.declared.tie.Loss.{Loss}
 use Rattle.log_ties.specs.declared.tie.Loss.TheVariants.{NoLog, CutAt, Damaged, NoDatabase}
+use Rattle.log_ties.specs.declared.tie.Loss.TheVariants.{OtherTime, OtherFile, NoTables}
 use Rattle.log_ties.specs.declared.tie.Tie.{Tie}
 use Rattle.log_ties.specs.declared.tie.Tie.TheVariants.{New, Begun, Tied, Lost}
 use Rattle.log_ties.specs.Ties.{EndsWithin, FailsOnlyFor, IsCut, IsLost, IsOfMaking, IsThere, IsToldOf, size_of}
@@ -80,6 +81,30 @@ lost_is image (Lost NoDatabase) NoLog told lost = absurd (told.0 lost.0)
 lost_is image (Lost NoDatabase) (CutAt n) told lost = absurd (told.0 lost.0)
 lost_is image (Lost NoDatabase) Damaged told lost = absurd (told.0 lost.0)
 lost_is image (Lost NoDatabase) NoDatabase told lost = refl
+lost_is image New (OtherTime t) told lost = absurd lost
+lost_is image New OtherFile told lost = absurd lost
+lost_is image Begun (OtherTime t) told lost = absurd lost
+lost_is image Begun OtherFile told lost = absurd lost
+lost_is image Tied (OtherTime t) told lost = absurd lost
+lost_is image Tied OtherFile told lost = absurd lost
+lost_is image (Lost NoLog) (OtherTime t) told lost = absurd lost
+lost_is image (Lost NoLog) OtherFile told lost = absurd lost
+lost_is image (Lost (CutAt n)) (OtherTime t) told lost = absurd lost
+lost_is image (Lost (CutAt n)) OtherFile told lost = absurd lost
+lost_is image (Lost Damaged) (OtherTime t) told lost = absurd lost
+lost_is image (Lost Damaged) OtherFile told lost = absurd lost
+lost_is image (Lost NoDatabase) (OtherTime t) told lost = absurd lost
+lost_is image (Lost NoDatabase) OtherFile told lost = absurd lost
+lost_is image New NoTables told lost = absurd lost
+lost_is image Begun NoTables told lost = absurd lost
+lost_is image Tied NoTables told lost = absurd lost
+lost_is image (Lost NoLog) NoTables told lost = absurd lost
+lost_is image (Lost (CutAt n)) NoTables told lost = absurd lost
+lost_is image (Lost Damaged) NoTables told lost = absurd lost
+lost_is image (Lost NoDatabase) NoTables told lost = absurd lost
+lost_is image (Lost (OtherTime t)) loss told lost = absurd told
+lost_is image (Lost OtherFile) loss told lost = absurd told
+lost_is image (Lost NoTables) loss told lost = absurd told
 
 module _ (log db head : List ℕ) (there : IsThere db) (long : 32 ≤ length log) (same : head ≡ header log) (unsigned : ¬ IsSigned head) where
   unsigned_log : ¬ IsSigned (header log)

@@ -1,5 +1,6 @@
 -- What a database file and its log tell of each other before any open. SQLite's log: fileformat2.html, section 4.
-use Rattle.std.specs.Prelude.{◌≡◌, ◌≢◌, ◌⊎◌, ℕ, suc, ◌+◌, ◌<◌, ◌≤◌, List, length, slice_index, Result, MatchResult}
+use Rattle.std.specs.Prelude.{◌≡◌, ◌≢◌, ◌⊎◌, ℕ, zero, suc, ◌+◌, ◌<◌, ◌≤◌, ◌==◌, if◌then◌else◌, List, length, slice_index}
+use Rattle.std.specs.Prelude.{Result, MatchResult}
 use Rattle.sqlite_wal.specs.Format.{be32, IsSigned, IsHeader, commit_size}
 use Rattle.sqlite_wal.specs.Outcome.{HasCause, OnlyIf}
 use Rattle.sqlite_wal.specs.PageSize.{IsPageSize}
@@ -8,6 +9,7 @@ use Rattle.sqlite_wal.specs.declared.error.Error.{Error}
 use Rattle.sqlite_wal.specs.declared.error.Error.TheVariants.{Full}
 use Rattle.log_ties.specs.declared.tie.Loss.{Loss}
 use Rattle.log_ties.specs.declared.tie.Loss.TheVariants.{NoLog, CutAt, Damaged, NoDatabase}
+use Rattle.log_ties.specs.declared.tie.Loss.TheVariants.{OtherTime, OtherFile, NoTables}
 use Rattle.log_ties.specs.declared.tie.Tie.{Tie}
 use Rattle.log_ties.specs.declared.tie.Tie.TheVariants.{New, Begun, Tied, Lost}
 
@@ -59,12 +61,15 @@ IsThere db = 1 < length db
 abbrev pub IsNew : Image → Type 0
 IsNew image = (¬ IsThere image.db) × ((¬ HasHeader image.log) ⊎ IsOfMaking image.log)
 
--- what was lost of the two files
+-- what was lost of the two files, as their bytes alone tell it; of two times and of tables they tell nothing
 abbrev pub IsLost : Image → Loss → Type 0
 IsLost image NoLog = IsThere image.db × (length image.log ≡ 0)
 IsLost image (CutAt n) = IsThere image.db × IsCut image.log × (n ≡ length image.log)
 IsLost image Damaged = IsThere image.db × IsDamaged image.log
 IsLost image NoDatabase = (¬ IsThere image.db) × HasHeader image.log × (¬ IsOfMaking image.log)
+IsLost image (OtherTime times) = ⊥
+IsLost image OtherFile = ⊥
+IsLost image NoTables = ⊥
 
 -- both are there, and nothing shows that one of them lost anything
 pub record AreWhole (image : Image) : Type 0 where
@@ -72,6 +77,24 @@ pub record AreWhole (image : Image) : Type 0 where
   pub long : 32 ≤ length image.log
   pub begins : IsSigned (header image.log) ⊎ (slice_index image.log 0 ≡ 0)
   pub uncut : ¬ IsCut image.log
+
+-- how many of the first k frames commit
+abbrev pub commits_to : ℕ → List ℕ → ℕ → ℕ
+commits_to size log zero = 0
+commits_to size log (suc i) = commits_to size log i + (if commit_size (frame size log i) == 0 then 0 else 1)
+
+-- SQLite reads the log, and so many of the frames that recovery takes commit
+abbrev pub HasCommits : List ℕ → ℕ → Type 0
+HasCommits log n = IsRead log × ((k : ℕ) × Replays (size_of log) log k × (n ≡ commits_to (size_of log) log k))
+
+-- recovery takes a commit of the log
+abbrev pub HasCommit : List ℕ → Type 0
+HasCommit log = (n : ℕ) × (0 < n) × HasCommits log n
+
+-- Only behind the commit of a database's tables the log is so: its header isn't of a making, and counts a checkpoint
+-- behind the first, or there is a commit. An open of a making that was stopped leaves one that counts 0, without commits.
+abbrev pub IsBehindTables : List ℕ → Type 0
+IsBehindTables log = HasHeader log × (be32 (header log) 12 ≢ 0xffff_ffff) × ((0 < be32 (header log) 12) ⊎ HasCommit log)
 
 -- the log's header says that no checkpoint was made yet: all that was written stands in the log alone
 abbrev pub IsUncopied : List ℕ → Type 0

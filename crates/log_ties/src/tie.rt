@@ -17,7 +17,16 @@ use sqlite_wal::{Error, PageSize, probe_frames};
 use std::alloc::Global;
 use std::io;
 
-/// What was lost of a database file and its log.
+/// What the commits of a log count, from the first to the last, and what the database file counts by itself.
+#[derive(Clone, Copy, Debug, PartialEq, Eq)]
+pub struct Times {
+    pub first: u64,
+    pub last: u64,
+    pub file: u64,
+}
+
+/// What was lost of a database file and its log. The last three are told by the tables in them, which `tie_of` doesn't
+/// read.
 #[derive(Clone, Copy, Debug, PartialEq, Eq)]
 pub enum Loss {
     /// The log isn't there, or has no byte.
@@ -28,6 +37,12 @@ pub enum Loss {
     Damaged,
     /// The database file isn't there, or has one byte, and the log is of one.
     NoDatabase,
+    /// The log's commits don't go on from what the database file counts.
+    OtherTime(Times),
+    /// The database file can be read by itself, and not with the log's commits.
+    OtherFile,
+    /// They have no tables, and the log is behind some.
+    NoTables,
 }
 
 /// What a database file and its log tell of each other.
@@ -44,7 +59,7 @@ pub enum Tie {
 }
 
 /// The log's header.
-fn read_head<D: Disk>(log: &mut D) -> io::Result<[u8; 32]>
+pub(crate) fn read_head<D: Disk>(log: &mut D) -> io::Result<[u8; 32]>
     requires usable { IsTrue (D.Disk.is_usable log.old) }
     requires long { IsClean D.Disk log.old → 32 ≤ length (D.Disk.seen log.old) }
     ensures head { IfOk result (λ head. IsClean D.Disk log.new → head ≡ header (D.Disk.seen log.old)) }
@@ -58,7 +73,7 @@ fn read_head<D: Disk>(log: &mut D) -> io::Result<[u8; 32]>
 
 /// The shape of a log that SQLite reads under this header, and how many of its frames recovery takes. None is of a log
 /// that it doesn't read, or of which recovery takes no number of frames.
-fn frames_of<D: Disk>(
+pub(crate) fn frames_of<D: Disk>(
     alloc: Global,
     log: &mut D,
     head: [u8; 32],

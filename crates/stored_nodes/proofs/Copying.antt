@@ -7,7 +7,7 @@ use Rattle.acceptor.specs.Found.{Holds}
 use Rattle.acceptor_store.specs.Linked.{Linked, MayFind, IsHonest}
 use Rattle.acceptor_store.specs.Owning.{HadAs}
 use Rattle.acceptor_store_parts.specs.declared.owner.Owner.{Owner}
-use Rattle.acceptor_store_parts.specs.Owned.{AreTablesFor}
+use Rattle.acceptor_store_parts.specs.Owned.{AreOwnedBy, AreTablesFor}
 use Rattle.acceptor_store_parts.specs.Serves.{ServesFor}
 use Rattle.acceptor_store_parts.specs.Tables.{blank_schema}
 use Rattle.acceptor_store_parts.proofs.Once.{content_once}
@@ -21,12 +21,18 @@ use Rattle.sqlite.specs.State.{HasCleanDisk}
 use Rattle.sqlite_disk.specs.declared.Disk as disk
 use Rattle.sqlite_disk.specs.declared.Files.{Files}
 use Rattle.sqlite_store.specs.declared.store.FileStore.{FileStore}
+use Rattle.sqlite.specs.Tree.{Trees}
 use Rattle.sqlite_trees.specs.Props.{Trees-set}
 use Rattle.stored_nodes.specs.Alone.{IsAlone, IsBegunIn, IsBlankIn, IsInLog, ReadsCopy}
 use Rattle.stored_nodes.specs.Kept.{IsFoundFor, IsOwnedAs}
 use Rattle.stored_nodes.specs.Starts.{ComesOfStart}
 use Rattle.stored_nodes.proofs.Opened.{found_also}
 use Rattle.stored_nodes.proofs.Started.{comes_anyhow}
+
+-- tables of an owner in version 4 hold no other content, and aren't those of version 3
+owned_once : (owner : Owner) (db : Trees) (c d : Content) → AreOwnedBy owner db c → AreTablesFor (Some owner) db d → c ≡ d
+owned_once owner db c d (inl are) now = content_once (Some owner) db c d are now
+owned_once owner db c d (inr before) now = absurd (let rows = sym before.1 ∙ now.owned.1.1 in cc rows)
 
 -- a connection that was opened over a copied log
 module _ {D : Type 0} {g : disk.Ghosts D} (old new : Held (FileStore D g)) (it : ReadsCopy old new) where
@@ -35,10 +41,10 @@ module _ {D : Type 0} {g : disk.Ghosts D} (old new : Held (FileStore D g)) (it :
   same_committed = ∥∥₁_elim it.copied.seen.both (Trees-set (file_state new).committed.trees (file_state old).committed.trees) (λ held. it.found.holds (file_state old).committed.trees held)
 
   -- so the database file holds by itself what it has
-  pub is_alone : (owner : Owner) (c : Content) → AreTablesFor (Some owner) (file_state new).committed.trees c → IsAlone g owner c
+  pub is_alone : (owner : Owner) (c : Content) → AreOwnedBy owner (file_state new).committed.trees c → IsAlone g owner c
   is_alone owner c are = (
     it.last,
-    record { tables = (file_state old).committed.trees; are = subst (λ t. AreTablesFor (Some owner) t c) same_committed are; seen = it.copied.seen; left = it.copied.left },
+    record { tables = (file_state old).committed.trees; are = subst (λ t. AreOwnedBy owner t c) same_committed are; seen = it.copied.seen; left = it.copied.left },
   )
 
 -- the records over it hold nothing, where there was nothing else to be copied
@@ -52,8 +58,8 @@ made_alone {g = g} owner made new (Ok x) serves copied holds clean = λ honest.
     let had = holds honest in
     let is = serves it.copied.was_clean in
     let before : AreTablesFor (Some owner) (file_state made).committed.trees no_content = subst (λ (d : Database). AreTablesFor (Some owner) d.trees no_content) is.settled is.tables in
-    let here : AreTablesFor (Some owner) (file_state made).committed.trees had.0 = subst (λ t. AreTablesFor (Some owner) t had.0) (same_committed made new it) had.1.0 in
-    let none : had.0 ≡ no_content = content_once (Some owner) (file_state made).committed.trees had.0 no_content here before in
+    let here : AreOwnedBy owner (file_state made).committed.trees had.0 = subst (λ t. AreOwnedBy owner t had.0) (same_committed made new it) had.1.0 in
+    let none : had.0 ≡ no_content = owned_once owner (file_state made).committed.trees had.0 no_content here before in
     (subst (λ c. Holds (MayFind over_files x.owner x.held) c) none had.2, subst (λ c. IsAlone g owner c) none (is_alone made new it owner had.0 had.1.0))
 
 -- a connection that was opened over a copied log, or stayed as it was where the log had been copied
@@ -65,7 +71,7 @@ module _ {D : Type 0} {g : disk.Ghosts D} (old new : Held (FileStore D g)) where
   abbrev IsSame : Tie → Type 0
   IsSame tie =
       HasCleanDisk (file_state old) × ((file_state new).committed.trees ≡ (file_state old).committed.trees)
-      × ((owner : Owner) (c : Content) → tie ≢ Tied → AreTablesFor (Some owner) (file_state new).committed.trees c → IsAlone g owner c)
+      × ((owner : Owner) (c : Content) → tie ≢ Tied → AreOwnedBy owner (file_state new).committed.trees c → IsAlone g owner c)
 
   by_copy : (tie : Tie) → ReadsCopy old new → IsSame tie
   by_copy tie it = (it.copied.was_clean, same_committed old new it, λ owner c other are. is_alone old new it owner c are)

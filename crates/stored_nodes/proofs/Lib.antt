@@ -1,6 +1,10 @@
 mod Counts
 mod Opened
 mod Told
+mod Copied
+mod Looked
 mod Started
 mod Copying
 mod Beside
+mod Timed
+mod Blank

@@ -1,8 +1,8 @@
 -- What a database file holds by itself, and files without tables.
-use Rattle.std.specs.Prelude.{◌≡◌, ◌⊎◌, Bool, true, IsTrue, Some}
+use Rattle.std.specs.Prelude.{◌≡◌, ◌⊎◌, Bool, true, IsTrue}
 use Rattle.acceptor.specs.Content.{Content}
 use Rattle.acceptor_store_parts.specs.declared.owner.Owner.{Owner}
-use Rattle.acceptor_store_parts.specs.Owned.{AreTablesFor}
+use Rattle.acceptor_store_parts.specs.Owned.{AreOwnedBy}
 use Rattle.acceptor_store_parts.specs.Tables.{blank_schema}
 use Rattle.log_ties.specs.Ties.{IsUncopied}
 use Rattle.sqlite.specs.Closing.{HoldsAlone, IsCopied}
@@ -21,7 +21,7 @@ use Rattle.stored_nodes.specs.Kept.{IsFoundFor}
 -- leaves it
 pub record IsAloneIn {D : Type 0} (g : disk.Ghosts D) (files : Files D) (owner : Owner) (c : Content) : Type 0 where
   pub tables : Trees
-  pub are : AreTablesFor (Some owner) tables c
+  pub are : AreOwnedBy owner tables c
   pub seen : HoldsAlone (image_of g files) tables
   pub left : (image : Image) → outcomes g files.log files.db image → HoldsAlone image tables
 

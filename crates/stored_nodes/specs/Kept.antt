@@ -1,8 +1,8 @@
 -- What files keep of a node that owns them.
-use Rattle.std.specs.Prelude.{◌≡◌, ◌⊎◌, Bool, true, Some}
+use Rattle.std.specs.Prelude.{◌≡◌, ◌⊎◌, Bool, true}
 use Rattle.acceptor.specs.Content.{Content, no_content}
 use Rattle.acceptor_store_parts.specs.declared.owner.Owner.{Owner}
-use Rattle.acceptor_store_parts.specs.Owned.{AreTablesFor}
+use Rattle.acceptor_store_parts.specs.Owned.{AreOwnedBy}
 use Rattle.acceptor_store_parts.specs.Stored.{IsOfNode}
 use Rattle.acceptor_store_parts.specs.Tables.{blank_schema}
 use Rattle.acceptor_store.specs.Linked.{MightLeave}
@@ -14,9 +14,9 @@ use Rattle.sqlite_disk.specs.declared.Files.{Files}
 use Rattle.sqlite_store.specs.declared.store.FileStore.{FileStore}
 use Rattle.sqlite_store.specs.FileStore.{recovers}
 
--- the trees are this owner's tables of the content, which a node wrote
+-- the trees are this owner's tables of the content, which a node wrote, of version 4 or 3
 abbrev pub IsOwnedAs : Owner → Trees → Content → Type 0
-IsOwnedAs owner db c = AreTablesFor (Some owner) db c × IsOfNode c
+IsOwnedAs owner db c = AreOwnedBy owner db c × IsOfNode c
 
 -- the same, or they are those of a database without tables, where it may be new and the content is none
 abbrev pub IsKeptFor : Owner → Bool → Trees → Content → Type 0

@@ -1,6 +1,10 @@
 pub mod Alone
 pub mod Faults
 pub mod Kept
+pub mod Looks
 pub mod Lost
 pub mod States
 pub mod Starts
+pub mod Times
+pub mod Told
+pub mod Tableless

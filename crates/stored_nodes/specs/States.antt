@@ -10,8 +10,6 @@ use Rattle.proposer.specs.declared.fault.NodeFault.{NodeFault}
 use Rattle.proposer.specs.declared.fault.NodeFault.TheVariants as node
 use Rattle.sqlite_disk.specs.declared.Disk as disk
 use Rattle.sqlite_disk.specs.declared.Files.{Files}
-use Rattle.stored_nodes.specs.declared.fault.StoreFault.{StoreFault}
-use Rattle.stored_nodes.specs.declared.fault.StoreFault.TheVariants as store
 use Rattle.stored_nodes.specs.declared.start.FileFault.{FileFault}
 use Rattle.stored_nodes.specs.declared.start.FileFault.TheVariants.{Failed}
 use Rattle.stored_nodes.specs.declared.start.StartFault.{StartFault}
@@ -56,12 +54,18 @@ told_owned (Ok true) = State Begun
 told_owned (Ok false) = State Used
 told_owned (Err fault) = told_start fault
 
--- by the open for nobody, which is asked for where there is no owner
-abbrev pub told_unowned : {U : Type 0} → Result U StoreFault → Told
-told_unowned (Ok _) = State Fresh
-told_unowned (Err store.NotFresh) = State Unowned
-told_unowned (Err store.Unusable) = State Foreign
-told_unowned (Err store.OutOfMemory) = Memory
+-- by the open for nobody, of tables that have no owner
+abbrev pub told_unowned : Result Bool StartFault → Told
+told_unowned (Ok true) = State Fresh
+told_unowned (Ok false) = State Unowned
+told_unowned (Err fault) = told_start fault
+
+-- by why a copy in memory wasn't opened, and whether its tables are those of a version, or none: such aren't refused for
+-- what they are, so a call of the copy failed, which it does for want of memory alone
+abbrev pub told_refused : OwnerFault → Bool → Told
+told_refused (owner.Open opening.Refused) true = Memory
+told_refused (owner.Open opening.Broken) known = Memory
+told_refused fault known = told_owner fault
 
 -- the state that was told, if one was: files that neither an owner nor nobody wrote are foreign
 abbrev pub state_told : Told → Option FilesState

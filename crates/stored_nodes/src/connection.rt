@@ -1,11 +1,11 @@
 //! Connections to files that lost nothing, and why there are none.
 
 ghost use Rattle.std.specs.Prelude.{◌≡◌, ◌<◌, ◌≤◌, ◌&&◌, Err, true, false, IfOk, IsErrAnd};
-ghost use Rattle.log_ties.specs.Ties.{IsLost, IsUncopied};
+ghost use Rattle.log_ties.specs.Ties.{IsUncopied};
 ghost use Rattle.log_ties.specs.declared.tie.Loss.{Loss};
 ghost use Rattle.sqlite.specs.Files.{file_state, image_of, Finds, IsOpened};
 ghost use Rattle.sqlite.specs.State.{HasCleanDisk};
-ghost use Rattle.stored_nodes.specs.Lost.{NeverLies, TellsLoss};
+ghost use Rattle.stored_nodes.specs.Lost.{IsLossOf, NeverLies, TellsLoss};
 
 use crate::start::{FileFault, StartFault};
 use crate::ties::refuse_lost;
@@ -74,9 +74,9 @@ pub(crate) fn connected<D: Disk + Drop>(
     ensures opened { IfOk result (λ r. HasCleanDisk (file_state r.0) → IsOpened r.0) }
     ensures found { IfOk result (λ r. HasCleanDisk (file_state r.0) → Finds files r.0) }
     ensures copied { IfOk result (λ r. HasCleanDisk (file_state r.0) → r.1 ≡ Tie.Tied → ¬ IsUncopied (image_of D.Disk files).log) }
-    ensures lost { (loss : Loss) → IsLost (image_of D.Disk files) loss → IfOk result (λ r. HasCleanDisk (file_state r.0) → ⊥) }
+    ensures lost { (loss : Loss) → IsLossOf (image_of D.Disk files) loss → IfOk result (λ r. HasCleanDisk (file_state r.0) → ⊥) }
     ensures told { NeverLies D.Disk → (D.Disk.is_usable files.log && D.Disk.is_usable files.db) ≡ true → (loss : Loss)
-        → IsLost (image_of D.Disk files) loss → IsErrAnd result (TellsLoss loss) }
+        → IsLossOf (image_of D.Disk files) loss → IsErrAnd result (TellsLoss loss) }
     ensures broken { (D.Disk.is_usable files.log && D.Disk.is_usable files.db) ≡ false
         → result ≡ Err (StartFault.Unopened (OwnerFault.Open OpenFault.Broken)) }
 {

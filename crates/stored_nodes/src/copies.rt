@@ -1,10 +1,17 @@
 //! Whether a node begins over files, found out without a change of them.
 
-ghost use Rattle.std.specs.Prelude.{◌≡◌, ◌<◌, ◌&&◌, Err, IsTrue, false};
+ghost use Rattle.std.specs.IoError.{error_kind};
+ghost use Rattle.std.specs.Prelude.{◌≡◌, ◌≢◌, ◌<◌, ◌≤◌, ◌&&◌, Err, IfErr, IfOk, IsTrue, false};
+ghost use Rattle.std.specs.declared.io.ErrorKind.TheVariants as kind;
 ghost use Rattle.acceptor.specs.Content.{Content};
 ghost use Rattle.acceptor.specs.Found.{Holds};
 ghost use Rattle.acceptor_store.specs.Linked.{IsHonest, MayFind};
 ghost use Rattle.ballots.specs.Members.{member_count};
+ghost use Rattle.sqlite.specs.Files.{faults_of, image_of};
+ghost use Rattle.sqlite_disk.specs.Disk.{MoreFaults};
+ghost use Rattle.sqlite_disk.specs.Memory.{memory_bytes, memory_is_usable};
+ghost use Rattle.sqlite_wal.specs.Reads.{AreClean, IsClean, OnlyReads};
+ghost use Rattle.stored_nodes.specs.Looks.{image_in};
 ghost use Rattle.stored_nodes.specs.States.{StayFiles, StaysFile};
 
 use crate::fresh::begun_with;
@@ -19,24 +26,42 @@ use std::io;
 use store_anew::OpensAnew;
 
 /// What a file holds, in memory.
-fn copied<D: Disk>(alloc: Global, file: &mut D) -> io::Result<Memory>
+pub(crate) fn copied<D: Disk>(alloc: Global, file: &mut D) -> io::Result<Memory>
     requires { IsTrue (D.Disk.is_usable file.old) }
-    ensures { StaysFile D.Disk file.old file.new }
+    ensures stays { StaysFile D.Disk file.old file.new }
+    ensures usable { IsTrue (D.Disk.is_usable file.new) }
+    ensures same { IfOk result (λ copy. IsClean D.Disk file.new → memory_bytes copy ≡ D.Disk.seen file.old) }
+    ensures ready { IfOk result (λ copy. IsTrue (memory_is_usable copy)) }
+    ensures reads { OnlyReads D.Disk file.old file.new }
+    ensures counts { D.Disk.faults file.old ≤ D.Disk.faults file.new }
+    ensures failed { IfErr result (λ e. error_kind e ≢ kind.OutOfMemory → IsClean D.Disk file.new
+        → MoreFaults (D.Disk.faults file.old) (D.Disk.faults file.new)) }
 {
     let length = file.len()?;
     let mut bytes = Vec::new(alloc);
     bytes.resize(length, 0u8)?;
     file.read_at(0, bytes.as_mut_slice())?;
     let mut copy = Memory::new(alloc);
-    copy.write_at(0, bytes.as_slice())?;
-    Ok(copy)
+    match copy.write_at(0, bytes.as_slice()) {
+        Ok(()) => Ok(copy),
+        Err(_) => Err(io::ErrorKind::OutOfMemory.into()),
+    }
 }
 
 /// What two files hold, in memory.
-fn copy_of<D: Disk>(alloc: Global, files: &mut Files<D>) -> io::Result<Files<Memory>>
+pub(crate) fn copy_of<D: Disk>(alloc: Global, files: &mut Files<D>) -> io::Result<Files<Memory>>
     requires log { IsTrue (D.Disk.is_usable files.old.log) }
     requires db { IsTrue (D.Disk.is_usable files.old.db) }
-    ensures { StayFiles D.Disk files.old files.new }
+    ensures stays { StayFiles D.Disk files.old files.new }
+    ensures log_usable { IsTrue (D.Disk.is_usable files.new.log) }
+    ensures db_usable { IsTrue (D.Disk.is_usable files.new.db) }
+    ensures same { IfOk result (λ copy. AreClean D.Disk files.new.log files.new.db → image_in copy ≡ image_of D.Disk files.old) }
+    ensures ready { IfOk result (λ copy. IsTrue (memory_is_usable copy.log) × IsTrue (memory_is_usable copy.db)) }
+    ensures log_reads { OnlyReads D.Disk files.old.log files.new.log }
+    ensures db_reads { OnlyReads D.Disk files.old.db files.new.db }
+    ensures counts { faults_of D.Disk files.old ≤ faults_of D.Disk files.new }
+    ensures failed { IfErr result (λ e. error_kind e ≢ kind.OutOfMemory → AreClean D.Disk files.new.log files.new.db
+        → MoreFaults (faults_of D.Disk files.old) (faults_of D.Disk files.new)) }
 {
     let log = copied(alloc, &mut files.log)?;
     let db = copied(alloc, &mut files.db)?;

@@ -1,6 +1,6 @@
 //! Nodes over records that may hold something, whatever these are.
 
-ghost use Rattle.std.specs.Prelude.{◌≡◌, ◌<◌, false, IfOk, IsTrue};
+ghost use Rattle.std.specs.Prelude.{◌≡◌, ◌≢◌, ◌<◌, Err, false, IfOk, IsTrue};
 ghost use Rattle.acceptor.specs.Content.{Content, no_content};
 ghost use Rattle.acceptor.specs.Found.{Holds};
 ghost use Rattle.ballots.specs.Members.{member_count};
@@ -27,6 +27,8 @@ pub(crate) fn begun_with<R: Records + Drop>(
         ⟦<SchedNode<R> as Node>⟧.stands (member_count members) id) }
     ensures empty { IfOk result (λ node. IsTrue (⟦<SchedNode<R> as Node>⟧.honest node) → (c : Content) → Holds (R.may_find records) c → c ≡ no_content) }
     ensures honest { IfOk result (λ node. IsTrue (⟦<SchedNode<R> as Node>⟧.honest node) → IsTrue (R.is_honest records)) }
+    ensures used { result ≡ Err StartFault.NotFresh → IsTrue (R.is_honest records) → ((r : R) → IsTrue (R.is_clean r))
+        → (c : Content) → Holds (R.may_find records) c → c ≢ no_content }
 {
     let mut node = SchedNode::new(alloc, id, members, records);
     if node.is_fresh()? {

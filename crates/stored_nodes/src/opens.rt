@@ -5,11 +5,10 @@ ghost use Rattle.acceptor.specs.Content.{Content};
 ghost use Rattle.acceptor.specs.Found.{Holds};
 ghost use Rattle.acceptor_store.specs.Linked.{IsHonest, MayFind, is_clean_in};
 ghost use Rattle.acceptor_store_parts.specs.declared.owner.Owner.{Owner as Named};
-ghost use Rattle.log_ties.specs.Ties.{IsLost};
 ghost use Rattle.log_ties.specs.declared.tie.Loss.{Loss};
 ghost use Rattle.sqlite.specs.Files.{image_of, over_files};
 ghost use Rattle.stored_nodes.specs.Alone.{IsBegunIn};
-ghost use Rattle.stored_nodes.specs.Lost.{NeverLies, TellsLoss};
+ghost use Rattle.stored_nodes.specs.Lost.{IsLossOf, NeverLies, TellsLoss};
 
 use crate::alone::{new_records, old_records};
 use crate::connection::{connected, told};
@@ -67,9 +66,9 @@ pub fn records_for<D: Disk + Drop>(
         × IsBegunIn D.Disk files (record { node = node; members = members }) is_new c) }
     ensures owner { IfOk result (λ r. r.owner ≡ Some (record { node = node; members = members })) }
     ensures sure { IfOk result (λ r. IsTrue (is_clean_in over_files r.held) → IsHonest over_files r) }
-    ensures lost { (loss : Loss) → IsLost (image_of D.Disk files) loss → IfOk result (λ r. IsHonest over_files r → ⊥) }
+    ensures lost { (loss : Loss) → IsLossOf (image_of D.Disk files) loss → IfOk result (λ r. IsHonest over_files r → ⊥) }
     ensures told { NeverLies D.Disk → (D.Disk.is_usable files.log && D.Disk.is_usable files.db) ≡ true → (loss : Loss)
-        → IsLost (image_of D.Disk files) loss → IsErrAnd result (TellsLoss loss) }
+        → IsLossOf (image_of D.Disk files) loss → IsErrAnd result (TellsLoss loss) }
     ensures broken { (D.Disk.is_usable files.log && D.Disk.is_usable files.db) ≡ false → result ≡ Err (StartFault.Unopened (OwnerFault.Open OpenFault.Broken)) }
 {
     let owner = Owner { node, members };
@@ -88,7 +87,7 @@ fn unowned_records<D: Disk + Drop>(
     files: Files<D>,
 ) -> Result<SqlRecords<FileStore<D>>, StartFault>
     ensures holds { IfOk result (λ r. IsHonest over_files r → (c : Content) × Holds (MayFind over_files r.owner r.held) c) }
-    ensures lost { (loss : Loss) → IsLost (image_of D.Disk files) loss → IfOk result (λ r. IsHonest over_files r → ⊥) }
+    ensures lost { (loss : Loss) → IsLossOf (image_of D.Disk files) loss → IfOk result (λ r. IsHonest over_files r → ⊥) }
 {
     let before = files.tally();
     let (conn, _tie) = connected(alloc, files)?;
@@ -103,7 +102,7 @@ impl<D: Disk + Drop> OpensRecords for Files<D> {
 
     ghost begins = { λ files owner is_new c. IsBegunIn D.Disk files owner is_new c };
 
-    ghost lost = { λ files loss. IsLost (image_of D.Disk files) loss };
+    ghost lost = { λ files loss. IsLossOf (image_of D.Disk files) loss };
 
     fn opened_for(
         self,

@@ -3,13 +3,13 @@
 ghost use Rattle.std.specs.Prelude.{◌≡◌, ◌<◌, false, true, IfOk, IsTrue};
 ghost use Rattle.acceptor.specs.Content.{Content, no_content};
 ghost use Rattle.ballots.specs.Members.{member_count};
-ghost use Rattle.log_ties.specs.Ties.{IsLost};
 ghost use Rattle.log_ties.specs.declared.tie.Loss.{Loss};
 ghost use Rattle.node.specs.View.{started};
 ghost use Rattle.node.specs.View.Standing.{Running};
 ghost use Rattle.seats.specs.Fresh.{IsFreshAt};
 ghost use Rattle.sqlite.specs.Files.{image_of};
 ghost use Rattle.stored_nodes.specs.Alone.{IsAlone, IsBegunIn, IsBlankIn};
+ghost use Rattle.stored_nodes.specs.Lost.{IsLossOf};
 ghost use Rattle.stored_nodes.specs.Starts.{HasStarted};
 
 use crate::fresh::{begun_with, resumed_with};
@@ -165,7 +165,7 @@ pub fn resumed_node<D: Disk + Drop>(
     ensures resumed { IfOk result (λ node. IsTrue (⟦<SchedNode<SqlRecords<FileStore<D>>> as Node>⟧.honest node)
         → (c : Content) × IsBegunIn D.Disk files (record { node = id; members = members }) false c
         × ⟦<SchedNode<SqlRecords<FileStore<D>>> as Node>⟧.stands node (Running (started c))) }
-    ensures lost { (loss : Loss) → IsLost (image_of D.Disk files) loss
+    ensures lost { (loss : Loss) → IsLossOf (image_of D.Disk files) loss
         → IfOk result (λ node. IsTrue (⟦<SchedNode<SqlRecords<FileStore<D>>> as Node>⟧.honest node) → ⊥) }
 {
     resumed_over(alloc, files, id, members)
@@ -184,7 +184,7 @@ pub fn begun_node<D: Disk + Drop>(
     ensures alone { IfOk result (λ node. IsTrue (⟦<SchedNode<SqlRecords<FileStore<D>>> as Node>⟧.honest node)
         → IsAlone D.Disk (record { node = id; members = members }) no_content) }
     ensures blank { IfOk result (λ node. IsTrue (⟦<SchedNode<SqlRecords<FileStore<D>>> as Node>⟧.honest node) → IsBlankIn D.Disk files) }
-    ensures lost { (loss : Loss) → IsLost (image_of D.Disk files) loss
+    ensures lost { (loss : Loss) → IsLossOf (image_of D.Disk files) loss
         → IfOk result (λ node. IsTrue (⟦<SchedNode<SqlRecords<FileStore<D>>> as Node>⟧.honest node) → ⊥) }
 {
     new_over(alloc, files, id, members)

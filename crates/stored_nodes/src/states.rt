@@ -1,25 +1,26 @@
 //! What a node's files are, found out without a change of them.
 
-ghost use Rattle.std.specs.Prelude.{◌≡◌, ◌<◌, ◌&&◌, IfOk, IsOkAnd, MatchResult, None, OnErr, Some};
+ghost use Rattle.std.specs.Prelude.{◌≡◌, ◌<◌, ◌≤◌, ◌&&◌, IfNone, IfOk, IfSome, IsOkAnd, IsTrue, MatchResult, None, OnErr, Some};
 ghost use Rattle.std.specs.Prelude.{false, true};
+ghost use Rattle.acceptor_store_parts.specs.declared.owner.Owner.{Owner as Named};
 ghost use Rattle.ballots.specs.Members.{member_count};
-ghost use Rattle.log_ties.specs.Ties.{IsLost};
 ghost use Rattle.log_ties.specs.declared.tie.Loss.{Loss};
-ghost use Rattle.sqlite.specs.Files.{image_of};
+ghost use Rattle.sqlite.specs.Files.{faults_of, image_of};
 ghost use Rattle.sqlite_wal.specs.Reads.{AreClean};
 ghost use Rattle.stored_nodes.specs.declared.start.FileFault.TheVariants.{Failed};
-ghost use Rattle.stored_nodes.specs.declared.states.FilesState.TheVariants.{Unusable};
+ghost use Rattle.stored_nodes.specs.declared.states.FilesState.TheVariants.{OtherNode, Unusable};
 ghost use Rattle.stored_nodes.specs.declared.states.Told.TheVariants.{State};
+ghost use Rattle.stored_nodes.specs.Lost.{IsLossOf};
+ghost use Rattle.stored_nodes.specs.Looks.{IsMember, IsSeenAs};
+ghost use Rattle.stored_nodes.specs.Told.{IsStateOf};
 ghost use Rattle.stored_nodes.specs.States.{IsTold, IsToldLost, StayFiles, other_owner, refusal_of, state_told};
 ghost use Rattle.stored_nodes.specs.States.{told_open, told_owned};
-ghost use Rattle.stored_nodes.specs.States.{told_owner, told_start, told_unowned, told_unread};
+ghost use Rattle.stored_nodes.specs.States.{told_owner, told_refused, told_start, told_unowned, told_unread};
 
 use crate::connection::refused;
-use crate::copies::begins_by_copy;
-use crate::fault::StoreFault;
-use crate::owned::Claim;
+use crate::copies::copy_of;
+use crate::looks::told_copy;
 use crate::start::{FileFault, StartFault};
-use crate::stored::examine;
 use crate::ties::refuse_lost;
 use acceptor_store::{OpenFault, OwnerFault};
 use acceptor_store_parts::Owner;
@@ -55,7 +56,7 @@ pub enum FilesState {
 
 /// What an open tells of the files.
 #[derive(Clone, Copy, Debug)]
-enum Told {
+pub(crate) enum Told {
     State(FilesState),
     /// They have no owner.
     NoOwner,
@@ -110,7 +111,7 @@ fn told_start(fault: StartFault) -> Told
 }
 
 /// What an open for an owner tells: whether its records hold nothing, or why there are none.
-fn told_owned(opened: Result<bool, StartFault>) -> Told
+pub(crate) fn told_owned(opened: Result<bool, StartFault>) -> Told
     ensures { result ≡ told_owned opened }
 {
     match opened {
@@ -120,59 +121,83 @@ fn told_owned(opened: Result<bool, StartFault>) -> Told
     }
 }
 
-/// What an open for nobody tells of files that have no owner.
-fn told_unowned(opened: Result<(), StoreFault>) -> Told
+/// What an open for nobody tells, of tables that have no owner.
+pub(crate) fn told_unowned(opened: Result<bool, StartFault>) -> Told
     ensures { result ≡ told_unowned opened }
 {
     match opened {
-        Ok(()) => Told::State(FilesState::Fresh),
-        Err(StoreFault::NotFresh) => Told::State(FilesState::Unowned),
-        Err(StoreFault::Unusable) => Told::State(FilesState::Foreign),
-        Err(StoreFault::OutOfMemory) => Told::Memory,
+        Ok(true) => Told::State(FilesState::Fresh),
+        Ok(false) => Told::State(FilesState::Unowned),
+        Err(fault) => told_start(fault),
     }
 }
 
-/// Whether the records of this node, as one of these members, hold nothing in a copy of the files.
-fn is_fresh_copy<D: Disk>(
-    alloc: Global,
-    files: &mut Files<D>,
-    id: NodeId,
-    members: Members,
-) -> Result<bool, StartFault>
-    requires { id < member_count members }
-    ensures files { StayFiles D.Disk files.old files.new }
+/// Why a copy in memory wasn't opened, whose tables are known or not as those of a version. A call of it fails for want
+/// of memory alone, and known tables aren't refused for what they are.
+pub(crate) fn told_refused(fault: OwnerFault, is_known: bool) -> Told
+    ensures { result ≡ told_refused fault is_known }
 {
-    match begins_by_copy(alloc, files, id, members, Claim::Own) {
-        Ok(()) => Ok(true),
-        Err(StartFault::NotFresh) => Ok(false),
-        Err(fault) => Err(fault),
+    match fault {
+        OwnerFault::Open(OpenFault::Refused) if is_known => Told::Memory,
+        OwnerFault::Open(OpenFault::Broken) => Told::Memory,
+        _ => told_owner(fault),
     }
 }
 
-/// The same as one of five members, or of three.
-fn is_fresh_owned<D: Disk>(
-    alloc: Global,
-    files: &mut Files<D>,
-    id: NodeId,
-) -> Result<bool, StartFault>
+/// What an open of a copy tells of files that lost nothing, for this node as one of these members.
+fn told_by_copy<D: Disk>(alloc: Global, files: &mut Files<D>, id: NodeId, members: Members) -> Told
+    requires member { id < member_count members }
+    requires log { IsTrue (D.Disk.is_usable files.old.log) }
+    requires db { IsTrue (D.Disk.is_usable files.old.db) }
     ensures files { StayFiles D.Disk files.old files.new }
+    ensures log_usable { IsTrue (D.Disk.is_usable files.new.log) }
+    ensures db_usable { IsTrue (D.Disk.is_usable files.new.db) }
+    ensures counts { faults_of D.Disk files.old ≤ faults_of D.Disk files.new }
+    ensures seen { AreClean D.Disk files.new.log files.new.db → IsTold (IsSeenAs (image_of D.Disk files.old) (record { node = id; members = members })
+        (faults_of D.Disk files.old) (faults_of D.Disk files.new)) result }
 {
-    let five = is_fresh_copy(alloc, files, id, Members::Five);
-    if let Err(StartFault::Unopened(OwnerFault::OtherMembers(_))) = five {
-        if id.number() < 3 {
-            return is_fresh_copy(alloc, files, id, Members::Three);
-        }
+    match copy_of(alloc, files) {
+        Ok(copy) => told_copy(alloc, copy, id, members),
+        Err(error) => told_start(StartFault::from(error)),
     }
-    five
 }
 
-/// What an open of a copy tells of files that lost nothing, for this node and then for nobody.
+/// The members that the owner is among, where it is this node.
+fn members_of(owner: &Owner, id: NodeId) -> Option<Members>
+    ensures some { IfSome result (λ members. (owner.now ≡ record { node = id; members = members }) × (id < member_count members)) }
+    ensures none { IfNone result (IsMember id owner.now → ⊥) }
+{
+    if owner.node == id && id.number() < owner.members.count() {
+        Some(owner.members)
+    } else {
+        None
+    }
+}
+
+/// The members that this node is among by its files, where these were told to be its own among others.
+fn named_member(told: &Told, id: NodeId) -> Option<Members>
+    ensures some { IfSome result (λ members. (told.now ≡ State (OtherNode (record { node = id; members = members }))) × (id < member_count members)) }
+    ensures none { IfNone result ((other : Named) → told.now ≡ State (OtherNode other) → IsMember id other → ⊥) }
+{
+    match told {
+        Told::State(FilesState::OtherNode(owner)) => members_of(owner, id),
+        _ => None,
+    }
+}
+
+/// What an open of a copy tells of files that lost nothing: for this node as one of five members, or of those that the
+/// files name.
 fn told_whole<D: Disk>(alloc: Global, files: &mut Files<D>, id: NodeId) -> Told
+    requires log { IsTrue (D.Disk.is_usable files.old.log) }
+    requires db { IsTrue (D.Disk.is_usable files.old.db) }
     ensures files { StayFiles D.Disk files.old files.new }
+    ensures so { AreClean D.Disk files.new.log files.new.db
+        → IsTold (IsStateOf (image_of D.Disk files.old) id (faults_of D.Disk files.old) (faults_of D.Disk files.new)) result }
 {
-    match told_owned(is_fresh_owned(alloc, files, id)) {
-        Told::NoOwner => told_unowned(examine(alloc, files)),
-        told => told,
+    let told = told_by_copy(alloc, files, id, Members::Five);
+    match named_member(&told, id) {
+        Some(members) => told_by_copy(alloc, files, id, members),
+        None => told,
     }
 }
 
@@ -180,8 +205,10 @@ fn told_whole<D: Disk>(alloc: Global, files: &mut Files<D>, id: NodeId) -> Told
 fn told_of<D: Disk>(alloc: Global, files: &mut Files<D>, id: NodeId) -> Told
     ensures files { StayFiles D.Disk files.old files.new }
     ensures unusable { (D.Disk.is_usable files.old.log && D.Disk.is_usable files.old.db) ≡ false → result ≡ State (Unusable Failed) }
-    ensures lost { (D.Disk.is_usable files.old.log && D.Disk.is_usable files.old.db) ≡ true → (loss : Loss) → IsLost (image_of D.Disk files.old) loss
+    ensures lost { (D.Disk.is_usable files.old.log && D.Disk.is_usable files.old.db) ≡ true → (loss : Loss) → IsLossOf (image_of D.Disk files.old) loss
         → AreClean D.Disk files.new.log files.new.db → IsTold (IsToldLost loss) result }
+    ensures so { (D.Disk.is_usable files.old.log && D.Disk.is_usable files.old.db) ≡ true → AreClean D.Disk files.new.log files.new.db
+        → IsTold (IsStateOf (image_of D.Disk files.old) id (faults_of D.Disk files.old) (faults_of D.Disk files.new)) result }
 {
     if !files.may_be_used() {
         return Told::State(FilesState::Unusable(FileFault::Failed));
@@ -205,7 +232,8 @@ fn state_told(told: Told) -> Result<FilesState, AllocError>
 }
 
 /// What the files of this node are. A copy of them is opened in memory, so that they stay as they are. Files that may
-/// not be used are unusable. Of files that lost something it is told what, unless a read of them fails.
+/// not be used are unusable. Of files that lost something it is told what, unless a read of them fails. Of others the
+/// state is so of their bytes, and they are unusable only where a read of them fails.
 pub fn state_of_files<D: Disk>(
     alloc: Global,
     files: &mut Files<D>,
@@ -213,8 +241,10 @@ pub fn state_of_files<D: Disk>(
 ) -> Result<FilesState, AllocError>
     ensures files { StayFiles D.Disk files.old files.new }
     ensures unusable { (D.Disk.is_usable files.old.log && D.Disk.is_usable files.old.db) ≡ false → IsOkAnd result (λ state. state ≡ Unusable Failed) }
-    ensures lost { (D.Disk.is_usable files.old.log && D.Disk.is_usable files.old.db) ≡ true → (loss : Loss) → IsLost (image_of D.Disk files.old) loss
+    ensures lost { (D.Disk.is_usable files.old.log && D.Disk.is_usable files.old.db) ≡ true → (loss : Loss) → IsLossOf (image_of D.Disk files.old) loss
         → AreClean D.Disk files.new.log files.new.db → IfOk result (IsToldLost loss) }
+    ensures as_open { (D.Disk.is_usable files.old.log && D.Disk.is_usable files.old.db) ≡ true → AreClean D.Disk files.new.log files.new.db
+        → IfOk result (IsStateOf (image_of D.Disk files.old) id (faults_of D.Disk files.old) (faults_of D.Disk files.new)) }
 {
     state_told(told_of(alloc, files, id))
 }

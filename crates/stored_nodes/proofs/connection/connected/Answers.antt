@@ -1,3 +1,8 @@
+use Rattle.std.proofs.Common.{rules, ◌≡◌, Result, Err, IsErrAnd, subst, sym}
+use Rattle.log_ties.specs.Ties.{IsToldOf}
+use Rattle.sqlite.specs.Files.{image_of}
+use Rattle.stored_nodes.specs.Lost.{TellsLoss}
+use Rattle.stored_nodes.specs.declared.start.StartFault.{StartFault}
 use Rattle.stored_nodes.proofs.Opened.{found_before}
 use Rattle.stored_nodes.proofs.connection.connected.Goals as goal
 
@@ -13,3 +18,12 @@ returns-in-Ok-clause-told g c never usable loss lost = c.in_ok-tie.ensures.lost 
 
 pub returns-in-Err-clause-told : goal.returns-in-Err-clause-told
 returns-in-Err-clause-told g c never usable loss lost = absurd (c.in_ok-tie.ensures.lost loss lost (never _ _))
+
+pub returns-in_err-tie-clause-told : goal.returns-in_err-tie-clause-told
+returns-in_err-tie-clause-told g c never usable loss lost =
+    let is : c.from_residual.result ≡ Err c.in_err-tie.field-0.0 = search rules in
+    subst (λ (r : Result _ StartFault). IsErrAnd r (TellsLoss loss)) (sym is) (c.in_err-tie.ensures.lost loss lost (never _ _))
+
+pub returns-in-Ok-clause-copied : goal.returns-in-Ok-clause-copied
+returns-in-Ok-clause-copied g c clean tied =
+    (subst (λ t. IsToldOf (image_of g.D.Disk c.args.files) t) tied (c.in_ok-tie.ensures.told (c.in-Ok.ensures.found clean).honest)).1

@@ -1,4 +1,7 @@
+use Rattle.std.proofs.Common.{rules, ◌≡◌, Result, Err, IsErrAnd, subst, sym}
 use Rattle.std.proofs.lemmas.Result.{IfOk-weaker}
+use Rattle.stored_nodes.specs.Lost.{TellsLoss}
+use Rattle.stored_nodes.specs.declared.start.StartFault.{StartFault}
 use Rattle.stored_nodes.proofs.Copying.{begun_new, begun_old}
 use Rattle.stored_nodes.proofs.opens.records_for.Goals as goal
 
@@ -23,3 +26,8 @@ returns-else-is_new-clause-lost g c loss lost = IfOk-weaker c.old_records.result
 
 pub returns-else-is_new-clause-told : goal.returns-else-is_new-clause-told
 returns-else-is_new-clause-told g c never usable loss lost = absurd (c.in_ok-conn.ensures.told never usable loss lost)
+
+pub returns-in_err-conn-clause-told : goal.returns-in_err-conn-clause-told
+returns-in_err-conn-clause-told g c never usable loss lost =
+    let is : c.from_residual.result ≡ Err c.in_err-conn.field-0.0 = search rules in
+    subst (λ (r : Result _ StartFault). IsErrAnd r (TellsLoss loss)) (sym is) (c.in_err-conn.ensures.told never usable loss lost)
