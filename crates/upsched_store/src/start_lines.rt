@@ -2,16 +2,28 @@
 
 ghost use Rattle.std.specs.Prelude.{OnOk};
 ghost use Rattle.std.specs.Io.KnownBytes.{Appends};
+ghost use Rattle.log_ties.specs.declared.tie.Loss.TheVariants.{OtherTime};
 ghost use Rattle.stored_nodes.specs.declared.start.StartFault.TheVariants.{Lost, Unopened, Unusable};
-ghost use Rattle.upsched_store.specs.Starts.{memory_line, start_line};
+ghost use Rattle.upsched_store.specs.Starts.{foreign_line, memory_line, start_line};
 
+use crate::found::foreign_text;
 use crate::store_check::why_text;
 use acceptor_store::{OpenFault, OwnerFault};
-use log_ties::Loss;
+use log_ties::{Loss, Times};
 use node::NodeFault;
 use std::io;
 use std::io::Write;
-use stored_nodes::{FileFault, StartFault};
+use stored_nodes::{FileFault, ForeignCause, StartFault};
+
+fn print_times<E: Write>(path: &str, times: Times, errors: &mut E) -> io::Result<()>
+    ensures { OnOk result (Appends (E.contents errors.old) (E.contents errors.new) (start_line path.now (Lost (OtherTime times)))) }
+{
+    let Times { first, last, file } = times;
+    writeln!(
+        errors,
+        "upsched: log missing: {path}-wal: has commits {first} to {last}, {path} has {file}"
+    )
+}
 
 fn print_loss<E: Write>(path: &str, loss: Loss, errors: &mut E) -> io::Result<()>
     ensures { OnOk result (Appends (E.contents errors.old) (E.contents errors.new) (start_line path.now (Lost loss))) }
@@ -24,6 +36,12 @@ fn print_loss<E: Write>(path: &str, loss: Loss, errors: &mut E) -> io::Result<()
         ),
         Loss::Damaged => writeln!(errors, "upsched: log missing: {path}-wal: is damaged"),
         Loss::NoDatabase => writeln!(errors, "upsched: database missing: {path}"),
+        Loss::OtherTime(times) => print_times(path, times, errors),
+        Loss::OtherFile => writeln!(
+            errors,
+            "upsched: log missing: {path}-wal: has commits that don't fit {path}"
+        ),
+        Loss::NoTables => writeln!(errors, "upsched: database missing: {path}: has no tables"),
     }
 }
 
@@ -67,7 +85,7 @@ fn print_unopened<E: Write>(path: &str, fault: OwnerFault, errors: &mut E) -> io
 }
 
 /// Prints the line of the fault, with the path of the file and the cause.
-pub(crate) fn print_start<E: Write>(path: &str, fault: StartFault, errors: &mut E) -> io::Result<()>
+pub fn print_start<E: Write>(path: &str, fault: StartFault, errors: &mut E) -> io::Result<()>
     ensures { OnOk result (Appends (E.contents errors.old) (E.contents errors.new) (start_line path.now fault)) }
 {
     match fault {
@@ -82,4 +100,15 @@ pub(crate) fn print_start<E: Write>(path: &str, fault: StartFault, errors: &mut 
         ),
         StartFault::Unread(_) => print_unusable(path, FileFault::Failed, errors),
     }
+}
+
+/// Prints the line of a start over files that no node wrote, with what is wrong of them.
+pub fn print_foreign<E: Write>(path: &str, cause: ForeignCause, errors: &mut E) -> io::Result<()>
+    ensures { OnOk result (Appends (E.contents errors.old) (E.contents errors.new) (foreign_line path.now cause)) }
+{
+    let cause = foreign_text(cause);
+    writeln!(
+        errors,
+        "upsched: store: {path}: no database of a node: {cause}"
+    )
 }

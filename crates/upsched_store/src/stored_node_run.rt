@@ -7,8 +7,13 @@ ghost use Rattle.node_service.specs.declared.batches.BatchedEnd.TheVariants as b
 ghost use Rattle.node_service.specs.declared.service.End.TheVariants as ends;
 ghost use Rattle.upsched_ends.specs.declared.status.Status.TheVariants.{Faulted, NotUnderstood};
 ghost use Rattle.upsched_node.specs.Member.{NamesMember};
+ghost use Rattle.upsched_store.specs.Crashes.{TellsCause};
+ghost use Rattle.upsched_store.specs.Stops.{StopsBy};
 
-use crate::start_lines::print_start;
+use crate::commitless::print_commitless;
+use crate::crash::{CrashCause, crash_of, print_crash};
+use crate::found::{foreign_start, is_commitless};
+use crate::start_lines::{print_foreign, print_start};
 use acceptor::PlainRecords;
 use acceptor_store::SqlRecords;
 use ballots::{Members, NodeId};
@@ -18,7 +23,7 @@ use node_lines::{Ahead, Unwritten};
 use node_service::{BatchedEnd, End, Lines, Outbox, Reply};
 use std::alloc::Global;
 use std::io::Write;
-use stored_nodes::{BatchedUse, CountsRefusals, StartFault, use_batched_at};
+use stored_nodes::{BatchedUse, CountsRefusals, ForeignCause, StartFault, use_batched_at};
 use upsched_ends::{Fault, NodeWords, Status};
 use upsched_node::{NO_MEMBER, ended, member_of, unwritten};
 
@@ -27,6 +32,10 @@ use upsched_node::{NO_MEMBER, ended, member_of, unwritten};
 enum Stopped {
     /// It didn't start.
     Unstarted(StartFault),
+    /// It didn't start over files that no node wrote.
+    Foreign(ForeignCause),
+    /// It crashed.
+    Crashed(CrashCause),
     Ended(Fault<'static>),
 }
 
@@ -45,22 +54,39 @@ fn end_of(end: BatchedEnd) -> End
     }
 }
 
+/// Why it ended, where the lines ended so and these records are given up.
+fn stopped_by<S: CountsRefusals>(end: BatchedEnd, records: SqlRecords<S>) -> Result<(), Stopped>
+    ensures { StopsBy (TellsCause S.refusals records) end result }
+{
+    match end_of(end) {
+        End::Crashed => Err(Stopped::Crashed(crash_of(records))),
+        other => match ended(other) {
+            Ok(()) => Ok(()),
+            Err(fault) => Err(Stopped::Ended(fault)),
+        },
+    }
+}
+
 /// Tells something, and sends it out.
 fn tell<O: Outbox>(alloc: Global, told: &Reply, output: &mut O) -> Result<(), Unwritten> {
     output.put(alloc, told)?;
     output.send_out()
 }
 
-/// A node that has started tells so first, and then replies to each line that comes.
+/// A node that has started tells so first, and then replies to each line that comes. Before that it tells where the log
+/// of its database, which is of this path, lacks commits.
 #[derive(Drop)]
-struct Serving<'a, I, O> {
+struct Serving<'a, I, O, E> {
     alloc: Global,
+    path: &'a str,
+    lacks_commits: bool,
     input: &'a mut I,
     output: &'a mut O,
+    errors: &'a mut E,
 }
 
-impl<I: Lines + Ahead, O: Outbox> BatchedUse for Serving<'_, I, O> {
-    type Answer = Result<(), Fault<'static>>;
+impl<I: Lines + Ahead, O: Outbox, E: Write> BatchedUse for Serving<'_, I, O, E> {
+    type Answer = Result<(), Stopped>;
 
     fn use_batched<S: CountsRefusals>(
         self,
@@ -68,15 +94,19 @@ impl<I: Lines + Ahead, O: Outbox> BatchedUse for Serving<'_, I, O> {
         store: SqlRecords<S>,
         member: (NodeId, Members),
         is_new: bool,
-    ) -> Result<(), Fault<'static>> {
+    ) -> Result<(), Stopped> {
         let Serving {
             alloc,
+            path,
+            lacks_commits,
             input,
             output,
+            errors,
         } = self;
+        let _ = print_commitless(path, lacks_commits, errors);
         let (id, members) = member;
         let Ok(mut seat) = BatchedSeat::of(alloc, node, store) else {
-            return Err(Fault::Memory);
+            return Err(Stopped::Ended(Fault::Memory));
         };
         let first = if is_new {
             Reply::Fresh(id, members)
@@ -84,37 +114,59 @@ impl<I: Lines + Ahead, O: Outbox> BatchedUse for Serving<'_, I, O> {
             Reply::Restarted(id, members)
         };
         if let Err(why) = tell(alloc, &first, output) {
-            return Err(unwritten(why));
+            return Err(Stopped::Ended(unwritten(why)));
         }
-        ended(end_of(serve_batched_member(alloc, &mut seat, input, output)))
+        let end = serve_batched_member(alloc, &mut seat, input, output);
+        stopped_by(end, seat.into_store())
     }
 }
 
-/// Serves over the database of a path: as a new node, or as one that goes on over what it left there.
-fn serve_over<I: Lines + Ahead, O: Outbox>(
-    rt: &HostRuntime,
-    words: &NodeWords<'_>,
-    path: &str,
+/// Why it didn't start for this fault, over the database of a path.
+fn unstarted(rt: &HostRuntime, path: &str, fault: StartFault) -> Stopped {
+    match foreign_start(rt, path, &fault) {
+        Some(cause) => Stopped::Foreign(cause),
+        None => Stopped::Unstarted(fault),
+    }
+}
+
+/// Which node starts, over the database of which path.
+#[derive(Clone, Copy)]
+struct Start<'a> {
+    path: &'a str,
     member: (NodeId, Members),
+    is_new: bool,
+}
+
+/// Serves so: as a new node, or as one that goes on over what it left there.
+fn serve_over<I: Lines + Ahead, O: Outbox, E: Write>(
+    rt: &HostRuntime,
+    start: Start<'_>,
     input: &mut I,
     output: &mut O,
+    errors: &mut E,
 ) -> Result<(), Stopped>
-    requires { member.0 < member_count member.1 }
+    requires { start.member.0 < member_count start.member.1 }
 {
-    let alloc = rt.alloc();
+    let Start {
+        path,
+        member,
+        is_new,
+    } = start;
     let serving = Serving {
-        alloc,
+        alloc: rt.alloc(),
+        path,
+        lacks_commits: !is_new && is_commitless(rt, path),
         input,
         output,
+        errors,
     };
-    match use_batched_at(rt, path, member, words.is_new, serving) {
-        Ok(Ok(())) => Ok(()),
-        Ok(Err(fault)) => Err(Stopped::Ended(fault)),
-        Err(fault) => Err(Stopped::Unstarted(fault)),
+    match use_batched_at(rt, path, member, is_new, serving) {
+        Ok(stopped) => stopped,
+        Err(fault) => Err(unstarted(rt, path, fault)),
     }
 }
 
-/// Tells in one line why it ended, with the path of the file.
+/// Tells in one line why it ended, with the path of the file where that is the cause.
 fn tell_stopped<E: Write>(path: &str, why: &Stopped, errors: &mut E) -> Status
     ensures { result ≡ Faulted }
 {
@@ -122,8 +174,11 @@ fn tell_stopped<E: Write>(path: &str, why: &Stopped, errors: &mut E) -> Status
         Stopped::Unstarted(fault) => {
             let _ = print_start(path, *fault, errors);
         }
-        Stopped::Ended(Fault::Crashed) => {
-            let _ = writeln!(errors, "upsched: crashed: {path}");
+        Stopped::Foreign(cause) => {
+            let _ = print_foreign(path, *cause, errors);
+        }
+        Stopped::Crashed(cause) => {
+            let _ = print_crash(path, *cause, errors);
         }
         Stopped::Ended(fault) => {
             let _ = fault.told(errors);
@@ -149,7 +204,12 @@ pub fn stored_node<I: Lines + Ahead, O: Outbox, E: Write>(
         let _ = writeln!(errors, "{NO_MEMBER}");
         return Status::NotUnderstood;
     };
-    match serve_over(rt, words, path, (id, members), input, output) {
+    let start = Start {
+        path,
+        member: (id, members),
+        is_new: words.is_new,
+    };
+    match serve_over(rt, start, input, output, errors) {
         Ok(()) => Status::Done,
         Err(why) => tell_stopped(path, &why, errors),
     }

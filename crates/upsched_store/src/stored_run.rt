@@ -1,9 +1,10 @@
 //! `upsched run SCRIPT --store DIR`: the nodes keep their records in files.
 
 ghost use Rattle.std.specs.Prelude.{◌≡◌, ◌≢◌};
-ghost use Rattle.upsched_ends.specs.declared.status.Status.TheVariants.{NotUnderstood};
+ghost use Rattle.upsched_ends.specs.declared.status.Status.TheVariants.{Faulted, NotUnderstood};
 ghost use Rattle.script_text.specs.StepScript.{NoSteps};
 
+use crate::refused_run::{is_of_files, tell_refused};
 use log::Log;
 use node::Node;
 use script_text::StepScript;
@@ -109,9 +110,27 @@ fn print_in<'a, F: Read, O: Write>(
     printed(use_nodes_in(rt, folder, members, printing))
 }
 
+/// Tells a fault in one line. Where it is one of the files of this folder and more is to be logged, it is told of each of
+/// these why.
+fn told<E: Write>(
+    rt: &HostRuntime,
+    fault: &Fault<'_>,
+    folder: &str,
+    verbose: bool,
+    errors: &mut E,
+) -> Status
+    ensures { result ≡ Faulted }
+{
+    let status = fault.told(errors);
+    if verbose && is_of_files(fault) {
+        tell_refused(rt, folder, errors);
+    }
+    status
+}
+
 /// Runs a script over fresh nodes with files in a folder, and prints as `run_script` does, or with a trace as
 /// `trace_script` or `name_script`. A fault of the script or of the store is found before anything is printed, and is
-/// told in one line.
+/// told in one line; where more is logged, further lines say which files of the store it is, and why.
 pub fn run_stored_script<F: Read, O: Write, E: Write>(
     rt: &HostRuntime,
     script: &mut F,
@@ -128,7 +147,7 @@ pub fn run_stored_script<F: Read, O: Write, E: Write>(
     let form = Form::Lines(Telling { verbose, trace });
     match print_in(rt, script, words.script, folder, form, output) {
         Ok(()) => Status::Done,
-        Err(fault) => fault.told(errors),
+        Err(fault) => told(rt, &fault, folder, verbose, errors),
     }
 }
 

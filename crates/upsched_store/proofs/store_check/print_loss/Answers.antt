@@ -15,3 +15,8 @@ pub returns-in-NoDatabase : goal.returns-in-NoDatabase
 returns-in-NoDatabase g c =
     subst (λ (l : Loss). OnOk c.writeln-in-NoDatabase.result (Appends (g.O.Write.contents c.args.output.now) (g.O.Write.contents c.writeln-in-NoDatabase.new.self)
     (c.args.path.now ++ (codes ": " ++ state_text c.args.path.now (Lost l))))) (sym c.in-NoDatabase.is) (search rules)
+
+pub returns-in-NoTables : goal.returns-in-NoTables
+returns-in-NoTables g c =
+    subst (λ (l : Loss). OnOk c.writeln-in-NoTables.result (Appends (g.O.Write.contents c.args.output.now) (g.O.Write.contents c.writeln-in-NoTables.new.self)
+    (c.args.path.now ++ (codes ": " ++ state_text c.args.path.now (Lost l))))) (sym c.in-NoTables.is) (search rules)
