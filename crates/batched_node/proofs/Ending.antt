@@ -1,5 +1,8 @@
 -- How a node beside a store ends, and what the store holds then.
-use Rattle.std.proofs.Common.{◌≡◌, inl, inr, ℕ, List, [], ◌++◌, Bool, true, false, IsTrue, refl, sym, ap, subst, ◌∙◌}
+use Rattle.std.proofs.Common.{◌≡◌, inl, inr, ℕ, List, [], ◌∷◌, ◌++◌, Bool, true, false, cond, IsTrue, refl, sym, ap, subst, ◌∙◌}
+use Rattle.std.proofs.KnownBytes.{Appends-trans}
+use Rattle.std.proofs.lemmas.List.{append-nil}
+use Rattle.std.proofs.lemmas.List.Sums.{take_while-cons}
 use Rattle.std.proofs.lemmas.List.Elements.{All-append}
 use Rattle.acceptor.specs.Content.{Content}
 use Rattle.acceptor.specs.declared.records.RecordsFault.{RecordsFault}
@@ -8,7 +11,9 @@ use Rattle.node.specs.View.Standing.{Running, Stopped}
 use Rattle.node.specs.declared.node.Node.{Ghosts as Nodes}
 use Rattle.node.specs.declared.parts.Parts.{Parts}
 use Rattle.node_lines.specs.Input.{IsLine}
-use Rattle.node_service.specs.Batched.{DoesNoMore, EndsBatchedBy, FailsToTell, ReadsNoMore, ServesBatched}
+use Rattle.node_lines.specs.declared.writing.Unwritten.{Unwritten}
+use Rattle.node_service.specs.Batched.{DoesNoMore, EndsBatchedBy, FailsToTell, ReadsNoMore, ServesBatched, StopsAt}
+use Rattle.node_service.specs.Batched.{left_of, replies_in, text_in}
 use Rattle.node_service.specs.Texts.{reply_text}
 use Rattle.node_service.specs.declared.batches.BatchedEnd.{BatchedEnd}
 use Rattle.node_service.specs.declared.batches.BatchedEnd.TheVariants as ends
@@ -20,6 +25,7 @@ use Rattle.seats.specs.Occupant.{Stands, is_up, node_of, who_of}
 use Rattle.seats.specs.Seat.{Shown, crashed}
 use Rattle.seats.specs.declared.seat.Seat.{Seat}
 use Rattle.std.specs.Io.KnownBytes.{Appends}
+use Rattle.std.specs.List.{flat_map}
 use Rattle.upsched_node.specs.Serving.{IsDown, IsUp}
 use Rattle.batched_node.proofs.Memory.{IsPlain, known, memory}
 use Rattle.batched_node.proofs.Running.{IsAt, IsSeated, batched_as, batched_lines, unkept_as, unkept_lines}
@@ -92,10 +98,10 @@ module _ {N A W I O : Type 0} {g : Nodes N} (parts : N → Parts Content) (plain
   is_down b t at up = shown_down (is_up (seat_of b)) (g.stands (node_of (seat_of b))) t (sym (seated.up b) ∙ up) at.0
 
   -- what wasn't stored
-  left_of : (a : A) (i : I) (o : O) (b : A) (j : I) (p : O) (seen unseen waiting : List (List ℕ × Reply)) (s : Standing) (r : Ran a i o b j p seen unseen waiting s) (why : RecordsFault) (b' : A)
+  left_of_store : (a : A) (i : I) (o : O) (b : A) (j : I) (p : O) (seen unseen waiting : List (List ℕ × Reply)) (s : Standing) (r : Ran a i o b j p seen unseen waiting s) (why : RecordsFault) (b' : A)
       → FailsToStore h why (store_of b) (store_of b') (memory parts plain (seat_of b))
       → IsTrue (h.honest (store_of b')) → IsLeftBy why (h.may_find (store_of b')) (content_of r.stored) (content_of r.last)
-  left_of a i o b j p seen unseen waiting s r why b' fails honest =
+  left_of_store a i o b j p seen unseen waiting s r why b' fails honest =
       subst (IsLeftBy why (h.may_find (store_of b')) (content_of r.stored)) (sym (known parts plain (seat_of b) r.last r.at.0 r.at.1))
       (fails.left honest (content_of r.stored) (r.kept (fails.honest honest)))
 
@@ -103,6 +109,31 @@ module _ {N A W I O : Type 0} {g : Nodes N} (parts : N → Parts Content) (plain
   none_apart : (i i' : I) → DoesNoMore keeper input i i' → ReadsNoMore input i i'
   none_apart i i' (inl none) = none
   none_apart i i' (inr (line, apart, gives)) = absurd (cc (apart, seated.apart line))
+
+  -- behind a commit that failed no reply is told
+  none_left : (told : Reply) (replies : List Reply) → left_of keeper told replies ≡ []
+  none_left told [] = refl
+  none_left told (reply ∷ replies) = take_while-cons (keeper.may_tell told) reply replies ∙ ap (λ (t : Bool). cond t (reply ∷ left_of keeper told replies) []) (seated.untold told reply)
+
+  none_text : (told : Reply) (replies : List Reply) → flat_map reply_text (left_of keeper told replies) ≡ []
+  none_text told replies = ap (λ (rs : List Reply). flat_map reply_text rs) (none_left told replies)
+
+  still : (seen unseen waiting : List (List ℕ × Reply)) (a : A) (i : I) (o : O) (b : A) (j : I) (sent held : O) (told : Reply) (replies : List Reply) → Serves seen unseen waiting a i o b j sent
+      → Appends (output.bytes_held sent) (output.bytes_held held) (flat_map reply_text (left_of keeper told replies)) → Serves seen unseen waiting a i o b j held
+  still seen unseen waiting a i o b j sent held told replies serves more = record {
+    mid = serves.mid;
+    from = serves.from;
+    turned = serves.turned;
+    kept = serves.kept;
+    waits = serves.waits;
+    read = serves.read;
+    written = subst (Appends (output.bytes_held o) (output.bytes_held held)) (ap (λ (bs : List ℕ). text_in reply_text seen ++ bs) (none_text told replies) ∙ append-nil (text_in reply_text seen))
+        (Appends-trans (output.bytes_held o) (output.bytes_held sent) (output.bytes_held held) (text_in reply_text seen) (flat_map reply_text (left_of keeper told replies)) serves.written more);
+  }
+
+  none_stops : (replies : List Reply) (why : Unwritten) (o o' : O) → replies ≡ [] → ¬ StopsAt reply_text output replies why o o'
+  none_stops replies why o o' none ([], later, next, held, split, written, fails) = absurd (cc (none, split))
+  none_stops replies why o o' none (x ∷ front, later, next, held, split, written, fails) = absurd (cc (none, split))
 
   pub serves_as : (end : BatchedEnd) (a : A) (i : I) (o : O) (a' : A) (i' : I) (o' : O) → EndsBatchedBy keeper reply_text input output end a i o a' i' o' → (s : Standing) → At a s → Ends end s i o a' i' o'
   serves_as ends.Input a i o a' i' o' (turns, rest, left, serves, up, gives, reads) s at =
@@ -114,16 +145,16 @@ module _ {N A W I O : Type 0} {g : Nodes N} (parts : N → Parts Content) (plain
   serves_as ends.Unreadable a i o a' i' o' (turns, rest, serves, up, fails) s at =
       let r = ran turns [] [] a i o a' rest o' s serves at in
       (record { seen = turns; unseen = []; waiting = []; stored = r.stored; last = r.last; rest = rest; sent = o' }, r.runs, (all_of turns a i o a' rest o' s r, is_running a' r.last r.at up, refl, fails))
-  serves_as ends.Uncommitted a i o a' i' o' (turns, waiting, before, rest, sent, given, serves, no_more, fails, down, tells) s at =
-      let r = ran turns [] waiting a i o before rest sent s serves at in
+  serves_as ends.Uncommitted a i o a' i' o' (turns, waiting, before, rest, sent, given, serves, no_more, fails, down, left, (held, front, tells)) s at =
+      let r = ran turns [] waiting a i o before rest held s (still turns [] waiting a i o before rest sent held given (replies_in waiting) serves front) at in
       let why = seated.fails before given a' fails in (
-        record { seen = turns; unseen = []; waiting = waiting; stored = r.stored; last = r.last; rest = rest; sent = sent },
+        record { seen = turns; unseen = []; waiting = waiting; stored = r.stored; last = r.last; rest = rest; sent = held },
         r.runs,
         (
           (
             why.0,
-            left_of a i o before rest sent turns [] waiting s r why.0 a' why.2,
-            subst (λ (x : Reply). Appends (output.bytes_held sent) (output.bytes_held o') (reply_text x)) why.1 tells,
+            left_of_store a i o before rest held turns [] waiting s r why.0 a' why.2,
+            subst (λ (x : Reply). Appends (output.bytes_held held) (output.bytes_held o') (reply_text x)) why.1 tells,
           ),
           refl,
           none_apart rest i' no_more,
@@ -141,16 +172,18 @@ module _ {N A W I O : Type 0} {g : Nodes N} (parts : N → Parts Content) (plain
         r.runs,
         (inl (subst (λ (x : A). IsKept h (store_of x) (content_of r.stored)) (sym same) r.kept, inr (turn, later, is, fails)), none_apart rest i' no_more),
       )
-  serves_as (ends.Unwritten why) a i o a' i' o' (turns, unseen, waiting, before, rest, sent, serves, no_more, inr (inr (given, fails, untold))) s at =
-      let r = ran turns unseen waiting a i o before rest sent s serves at in
+  serves_as (ends.Unwritten why) a i o a' i' o' (turns, unseen, waiting, before, rest, sent, serves, no_more, inr (inr (given, none, fails, left, inl stops))) s at =
+      absurd (none_stops (left_of keeper given (replies_in waiting)) why sent o' (none_left given (replies_in waiting)) stops)
+  serves_as (ends.Unwritten why) a i o a' i' o' (turns, unseen, waiting, before, rest, sent, serves, no_more, inr (inr (given, none, fails, left, inr (held, front, untold)))) s at =
+      let r = ran turns unseen waiting a i o before rest held s (still turns unseen waiting a i o before rest sent held given (replies_in waiting) serves front) at in
       let fault = seated.fails before given a' fails in (
-        record { seen = turns; unseen = unseen; waiting = waiting; stored = r.stored; last = r.last; rest = rest; sent = sent },
+        record { seen = turns; unseen = unseen; waiting = waiting; stored = r.stored; last = r.last; rest = rest; sent = held },
         r.runs,
         (
           inr (
             fault.0,
-            left_of a i o before rest sent turns unseen waiting s r fault.0 a' fault.2,
-            subst (λ (x : Reply). FailsToTell output (reply_text x) why sent o') fault.1 untold,
+            left_of_store a i o before rest held turns unseen waiting s r fault.0 a' fault.2,
+            subst (λ (x : Reply). FailsToTell output (reply_text x) why held o') fault.1 untold,
           ),
           none_apart rest i' no_more,
         ),

@@ -35,6 +35,7 @@ pub record IsSeated {A W N : Type 0} {g : Nodes N} (h : Stores W) (parts : N →
   pub commits : (a b : A) → keeper.commits a b → seat_of b ≡ seat_of a
   pub apart : (line : List ℕ) → keeper.is_apart line ≡ false
   pub kept : (a : A) → keeper.has_kept a → IsKept h (store_of a) (memory parts plain (seat_of a))
+  pub untold : (given other : Reply) → keeper.may_tell given other ≡ false
   pub fails : (a : A) (given : Reply) (b : A) → keeper.fails a given b → (why : RecordsFault) × (given ≡ fault_of why) × FailsToStore h why (store_of a) (store_of b) (memory parts plain (seat_of a))
 
 -- what was read asks what the line asks

@@ -45,6 +45,10 @@ impl<W: WriteStore> Keeper for BatchedSeat<W> {
     ghost fails = { λ old given new. (why : RecordsFault) × (given ≡ fault_of why)
         × FailsToStore W.WriteStore why old.noted.store new.noted.store (node_of old.seat).parts.records };
 
+    ghost may_tell = { λ told given. false };
+
+    ghost leaves = { λ b given. ⊥ };
+
     fn can_act(&self) -> bool {
         self.seat.is_up()
     }
@@ -66,6 +70,10 @@ impl<W: WriteStore> Keeper for BatchedSeat<W> {
 
     fn is_full(&self) -> bool {
         self.noted.is_full()
+    }
+
+    fn may_tell(told: &Reply, reply: &Reply) -> bool {
+        false
     }
 
     fn commit(&mut self) -> Result<(), Reply> {

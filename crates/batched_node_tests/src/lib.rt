@@ -3,4 +3,6 @@
 
 #[cfg(test)]
 mod batches;
+#[cfg(test)]
+mod left;
 mod stores;

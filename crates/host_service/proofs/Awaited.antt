@@ -1,13 +1,11 @@
 -- A host that waits for a state, over lines.
-use Rattle.std.proofs.Common.{◌≡◌, ◌⊎◌, ◌∙◌, inl, inr, ℕ, zero, suc, Bool, false, true, List, [], ◌∷◌, ◌++◌, All, Option, Some, None}
-use Rattle.std.proofs.Common.{Result, Ok, Err, arith, refl, sym, ap, subst}
+use Rattle.std.proofs.Common.{◌≡◌, ◌⊎◌, ◌∙◌, inl, inr, ℕ, zero, suc, Bool, false, true, List, [], ◌∷◌, ◌++◌, All, Some, None}
+use Rattle.std.proofs.Common.{Result, Ok, Err, refl, sym, ap, subst}
 use Rattle.std.specs.Prelude.{is_some}
 use Rattle.std.specs.Io.KnownBytes.{Appends, Consumes}
 use Rattle.std.proofs.lemmas.List.{append-nil}
 use Rattle.std.proofs.lemmas.List.Elements.{All-cons, All-nil}
-use Rattle.acceptor.specs.Content.{Content}
-use Rattle.epochs.specs.Epochs.{AreFull}
-use Rattle.hosts.specs.Hosts.{IsHonest, number_of}
+use Rattle.hosts.specs.Hosts.{number_of}
 use Rattle.hosts.specs.Opening.{KeepsBeginnings}
 use Rattle.hosts.specs.Starting.{CanStart, IsNoStartBy}
 use Rattle.hosts.specs.States.{IsStateOf}
@@ -17,7 +15,7 @@ use Rattle.hosts.specs.declared.host.Host.{Host}
 use Rattle.hosts.specs.declared.opens.Opens.{Ghosts}
 use Rattle.node.specs.declared.node.Node.{Ghosts as Nodes}
 use Rattle.node_lines.specs.declared.fault.LineFault.{LineFault}
-use Rattle.node_service.specs.Batched.{BatchedTurns, Commits, EndsBatchedBy, IsCameOf, LineTurn, ServesBatched, lines_in}
+use Rattle.node_service.specs.Batched.{BatchedTurns, Commits, EndsBatchedBy, IsCameOf, ServesBatched, lines_in}
 use Rattle.node_service.specs.Batched.{text_in}
 use Rattle.node_service.specs.declared.batches.BatchedEnd.TheVariants as ends
 use Rattle.node_service.specs.declared.lines.Lines.{Ghosts as Inputs}

@@ -1,12 +1,12 @@
 -- What a host replies to a line.
-use Rattle.std.specs.Prelude.{◌≡◌, ◌⊎◌, ℕ, Bool, true, false, ◌++◌, nat_le, if◌then◌else◌, List, length}
+use Rattle.std.specs.Prelude.{◌≡◌, ◌⊎◌, ℕ, Bool, true, false, ◌++◌, nat_le, nat_lt, if◌then◌else◌, List, length, Some}
 use Rattle.std.specs.Prelude.{Result, Ok, Err, IfErr, IfOk, OnOk, Vec}
 use Rattle.std.specs.declared.alloc.AllocError.{AllocError}
 use Rattle.std.specs.declared.alloc.Global.{Global}
 use Rattle.grant_machine.specs.declared.output.Output.{Output}
 use Rattle.hosts.specs.Acting.{ActsIn, IsAskedIn, IsRefusedSo}
 use Rattle.hosts.specs.Hosts.{AreMembers, IsHonest, KeepsTrust, SameHost, StandsAs, are_up, begins_of, member_of}
-use Rattle.hosts.specs.Hosts.{number_of, places_of}
+use Rattle.hosts.specs.Hosts.{number_of, places_of, seat_of}
 use Rattle.hosts.specs.Joining.{Joins, JoinsAs, StaysFor}
 use Rattle.hosts.specs.Keeping.{FailsToKeep, HaveKept}
 use Rattle.hosts.specs.States.{IsStateOf}
@@ -31,6 +31,8 @@ use Rattle.node_service.specs.declared.outgoing.Reply.TheVariants as reply
 use Rattle.proposer.specs.declared.fault.NodeFault.{NodeFault}
 use Rattle.proposer.specs.declared.fault.NodeFault.TheVariants.{OutOfMemory}
 use Rattle.seats.specs.Moves.{Ask}
+use Rattle.seats.specs.Occupant.{node_of}
+use Rattle.seats.specs.declared.seat.Seat.{Seat}
 use Rattle.seats.specs.declared.acted.Acted.TheVariants as came
 use Rattle.host_service.specs.Asking.{AsksHost, AsksNoHost, is_apart}
 use Rattle.host_service.specs.Numbers.{HasNoNumber, IsNumbered}
@@ -121,6 +123,24 @@ pub record FailsSo {O N : Type 0} {g : Ghosts O N} {h : Nodes N} (old : Host O N
   pub fails : FailsToKeep old epoch why new
   pub told : replied ≡ unkept_reply (record { epoch = epoch; places = places_of old }) why
 
+-- where the commit of this epoch failed, a reply may be told all the same: it is of an epoch below, whose node commits
+-- before; or its line asked nothing
+abbrev pub is_left_below : ℕ → HostReply → Bool
+is_left_below failed (InEpoch n acted) = nat_lt n.epoch failed
+is_left_below failed (AsNode (reply.Refused why)) = true
+is_left_below failed other = false
+
+-- the same by what is told of that commit
+abbrev pub may_tell : HostReply → HostReply → Bool
+may_tell (InEpoch n acted) replied = is_left_below n.epoch replied
+may_tell other replied = false
+
+-- a crash leaves what came of the line that had this reply: all that the node of its epoch did, or the line asked nothing
+abbrev pub Leaves : {O N : Type 0} {g : Ghosts O N} {h : Nodes N} → Host O N g h → HostReply → Type 0
+Leaves {O} {N} {g} {h} host (InEpoch n acted) = (seat : Seat N h) → seat_of host n.epoch ≡ Some seat → g.has_kept (node_of seat)
+Leaves host (AsNode told) = (why : LineFault) × (told ≡ reply.Refused why)
+Leaves host other = ⊥
+
 -- the reply that tells a fault
 abbrev pub fault_reply : NodeFault → HostReply
 fault_reply why = AsNode (reply.Acted (came.Fault why))
@@ -209,4 +229,6 @@ host_keeper = record {
   has_kept = λ server. HaveKept (host_of server);
   commits = λ old new. CommitsSo (host_of old) (host_of new);
   fails = λ old told new. FailsSo (host_of old) told (host_of new);
+  may_tell = may_tell;
+  leaves = λ server replied. Leaves (host_of server) replied;
 }

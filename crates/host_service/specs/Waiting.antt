@@ -1,5 +1,5 @@
 -- What a host does with lines while it waits for a state to begin by.
-use Rattle.std.specs.Prelude.{◌≡◌, ◌⊎◌, ℕ, Bool, false, List, [], ◌∷◌, ◌++◌, All, Option, Some, None, is_some, Result, Ok, Err}
+use Rattle.std.specs.Prelude.{◌≡◌, ◌⊎◌, ℕ, Bool, false, List, [], ◌∷◌, ◌++◌, All, Some, None, is_some, Result, Ok, Err}
 use Rattle.std.specs.Io.KnownBytes.{Appends, Consumes}
 use Rattle.acceptor.specs.Content.{Content}
 use Rattle.epochs.specs.Epochs.{AreFull}
@@ -99,6 +99,8 @@ waiting_keeper = record {
   has_kept = λ w. Unit {0};
   commits = λ old new. new ≡ old;
   fails = λ old told new. ⊥;
+  may_tell = λ told replied. false;
+  leaves = λ w replied. ⊥;
 }
 
 -- a line that came while it waited, and its reply: it was let go; it gives no state; or what it gives is none for such a

@@ -1,8 +1,8 @@
 //! What a host replies.
 
 ghost use Rattle.std.specs.Prelude.{◌≡◌};
-ghost use Rattle.host_service.specs.Replying.{again_reply, fault_reply, join_reply, reply_of, state_reply};
-ghost use Rattle.host_service.specs.Replying.{unkept_reply};
+ghost use Rattle.host_service.specs.Replying.{again_reply, fault_reply, is_left_below, join_reply, may_tell, reply_of};
+ghost use Rattle.host_service.specs.Replying.{state_reply, unkept_reply};
 ghost use Rattle.host_service.specs.Waiting.{no_start_reply};
 
 use crate::number::EpochNumber;
@@ -68,6 +68,27 @@ pub(crate) fn unkept_reply(epoch: u64, places: u64, fault: NodeFault) -> HostRep
         EpochNumber { epoch, places },
         HostActed::Of(Acted::Fault(fault)),
     )
+}
+
+/// Whether a reply may be told where the commit of this epoch failed: it is of an epoch below, or its line asked nothing.
+fn is_left_below(failed: u64, reply: &HostReply) -> bool
+    ensures { result ≡ is_left_below failed reply.now }
+{
+    match reply {
+        HostReply::InEpoch(number, _) => number.epoch < failed,
+        HostReply::AsNode(Reply::Refused(_)) => true,
+        _ => false,
+    }
+}
+
+/// The same by what is told of that commit.
+pub(crate) fn may_tell(told: &HostReply, reply: &HostReply) -> bool
+    ensures { result ≡ may_tell told.now reply.now }
+{
+    match told {
+        HostReply::InEpoch(number, _) => is_left_below(number.epoch, reply),
+        _ => false,
+    }
 }
 
 /// The reply to a release of a host with so many places in an epoch.

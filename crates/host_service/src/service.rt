@@ -7,14 +7,16 @@ ghost use Rattle.hosts.specs.Views.{HostView};
 ghost use Rattle.node_service.specs.Batched.{EndsBatchedBy};
 ghost use Rattle.node_service.specs.Seated.{asked_of};
 ghost use Rattle.host_service.specs.Asking.{is_apart};
-ghost use Rattle.host_service.specs.Replying.{ActsSo, CommitsSo, DoesAsked, DoesJoin, DoesRelease, FailsSo};
-ghost use Rattle.host_service.specs.Replying.{RepliesAlone, RepliesIn, RepliesTo, host_keeper, host_of};
+ghost use Rattle.host_service.specs.Replying.{ActsSo, CommitsSo, DoesAsked, DoesJoin, DoesRelease, FailsSo, Leaves};
+ghost use Rattle.host_service.specs.Replying.{RepliesAlone, RepliesIn, RepliesTo, host_keeper, host_of, may_tell};
 ghost use Rattle.host_service.specs.Serving.{IfAllTold, NeverLies, ServesFrom};
 ghost use Rattle.host_service.specs.Texts.{host_text};
 
 use crate::asked::{HostRequest, asked_of_host, asked_of_node, is_apart, rest_of};
 use crate::number::{EpochNumber, number_before};
-use crate::reply::{HostReply, again_reply, join_reply, reply_of, state_reply, unkept_reply};
+use crate::reply::{
+    HostReply, again_reply, join_reply, may_tell, reply_of, state_reply, unkept_reply,
+};
 use ballots::Bytes;
 use hosts::{Host, HostActed, Opens};
 use node_lines::{Ahead, LineFault, Request};
@@ -122,6 +124,14 @@ impl<O: Opens> HostServer<O> {
     {
         &self.host
     }
+
+    /// The host, where it replies no more.
+    pub fn into_host(self) -> Host<O>
+        ensures { result ≡ host_of self }
+    {
+        let HostServer { host } = self;
+        host
+    }
 }
 
 impl<O: Opens> Keeper for HostServer<O> {
@@ -142,6 +152,10 @@ impl<O: Opens> Keeper for HostServer<O> {
     ghost commits = { λ old new. CommitsSo (host_of old) (host_of new) };
 
     ghost fails = { λ old told new. FailsSo (host_of old) told (host_of new) };
+
+    ghost may_tell = { may_tell };
+
+    ghost leaves = { λ server replied. Leaves (host_of server) replied };
 
     fn can_act(&self) -> bool {
         self.host.is_up()
@@ -164,6 +178,10 @@ impl<O: Opens> Keeper for HostServer<O> {
 
     fn is_full(&self) -> bool {
         self.host.is_full()
+    }
+
+    fn may_tell(told: &HostReply, reply: &HostReply) -> bool {
+        may_tell(told, reply)
     }
 
     fn commit(&mut self) -> Result<(), HostReply> {

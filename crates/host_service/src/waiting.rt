@@ -92,6 +92,10 @@ impl<O: Opens> Keeper for WaitingHost<O> {
 
     ghost fails = { λ old told new. ⊥ };
 
+    ghost may_tell = { λ told replied. false };
+
+    ghost leaves = { λ waiting replied. ⊥ };
+
     fn can_act(&self) -> bool {
         self.opens.is_some()
     }
@@ -112,6 +116,10 @@ impl<O: Opens> Keeper for WaitingHost<O> {
     }
 
     fn is_full(&self) -> bool {
+        false
+    }
+
+    fn may_tell(told: &HostReply, reply: &HostReply) -> bool {
         false
     }
 

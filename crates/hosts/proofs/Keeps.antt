@@ -1,5 +1,6 @@
 -- A host whose nodes keep what they did.
-use Rattle.std.proofs.Common.{◌≡◌, ◌∙◌, ℕ, ◌+◌, Bool, true, false, ◌&&◌, Option, Some, None, refl, sym, ap, subst}
+use Rattle.std.proofs.Common.{◌≡◌, ◌∙◌, inl, inr, ℕ, ◌+◌, ◌-◌, ◌<◌, ◌≤◌, Bool, true, false, ◌&&◌, Option, Some, None, refl, sym, ap}
+use Rattle.std.proofs.Common.{arith, subst}
 use Rattle.std.specs.Prelude.{IsTrue}
 use Rattle.node.specs.Calls.{Who}
 use Rattle.node.specs.View.{Standing}
@@ -11,15 +12,15 @@ use Rattle.seats.specs.declared.seat.Seat.{Seat}
 use Rattle.epochs.specs.Epochs.{AreFull}
 use Rattle.epochs.specs.Scheduling.{scheduled}
 use Rattle.hosts.specs.Hosts.{AreMembers, KeepsTrust, SameHost, StandsAs, are_up, is_up_if_any, seat_of}
-use Rattle.hosts.specs.Keeping.{FailsIfAny, FailsInSeat, HasKeptIfAny, HaveKept, IsSameSeat, KeepsSeat}
-use Rattle.hosts.specs.Keeping.{NoneOrBoth, RelatesSeats}
+use Rattle.hosts.specs.Keeping.{FailsIfAny, FailsInSeat, HasKeptIfAny, HaveKept, IsSameSeat}
+use Rattle.hosts.specs.Keeping.{KeepsSeat, NoneOrBoth, RelatesSeats}
 use Rattle.hosts.specs.Slots.{slot}
 use Rattle.hosts.specs.Views.{HostView, values}
 use Rattle.hosts.specs.declared.host.Host.{Host}
 use Rattle.hosts.specs.declared.opens.Opens.{Ghosts}
 use Rattle.hosts.proofs.KeptStates.{same_states}
 use Rattle.hosts.proofs.Openings.{keeps_same}
-use Rattle.hosts.proofs.SlotLemmas.{same_inside, slot_after, slot_before, slot_own, slots_all}
+use Rattle.hosts.proofs.SlotLemmas.{same_inside, slot_after, slot_before, slot_cases, slot_own, slots_all}
 
 -- a node that did nothing is the same
 pub same_seat : {N : Type 0} {h : Nodes N} (seat : Seat N h) → IsSameSeat seat seat
@@ -160,6 +161,49 @@ pub kept_all : {O N : Type 0} {g : Ghosts O N} {h : Nodes N} (host : Host O N g 
 kept_all {O} {N} {g} {h} host before own after =
     slots_all (λ f x. g.has_kept (node_of x)) host.number host.before host.own host.after own after
     (λ f s below there. subst (λ (x : Option (Seat N h)). HasKeptIfAny g x) there before)
+
+-- what has been kept where one fails to: nothing is below the one before
+abbrev pub KeptBelow : {O N : Type 0} {h : Nodes N} → Ghosts O N → ℕ → ℕ → Option (Seat N h) → Seat N h → Seat N h → Type 0
+KeptBelow {O} {N} {h} g below number before own after = (e : ℕ) (seat : Seat N h) → e < below → slot number before own after e ≡ Some seat → g.has_kept (node_of seat)
+
+pub none_below : {O N : Type 0} {h : Nodes N} (g : Ghosts O N) (number : ℕ) (before : Option (Seat N h)) (own after : Seat N h) → 1 ≤ number → KeptBelow g (number - 1) number before own after
+none_below g number before own after first e seat low at =
+    elim (slot_cases number before own after e seat at) [
+      | inl found ↦ absurd (omega (arith, found.0, low))
+      | inr more ↦ elim more [
+        | inl found ↦ absurd (omega (arith, found.0, low))
+        | inr found ↦ absurd (omega (arith, found.0, low, first))
+      ]
+    ]
+
+-- the one before is below the own one, and both are below the one after
+pub before_below : {O N : Type 0} {h : Nodes N} (g : Ghosts O N) (number : ℕ) (before : Option (Seat N h)) (own after : Seat N h) → HasKeptIfAny g before → KeptBelow g number number before own after
+before_below {O} {N} {h} g number before own after kept e seat low at =
+    elim (slot_cases number before own after e seat at) [
+      | inl found ↦ absurd (omega (arith, found.0, low))
+      | inr more ↦ elim more [
+        | inl found ↦ absurd (omega (arith, found.0, low))
+        | inr found ↦ subst (λ (x : Option (Seat N h)). HasKeptIfAny g x) found.1 kept
+      ]
+    ]
+
+pub own_below : {O N : Type 0} {h : Nodes N} (g : Ghosts O N) (number : ℕ) (before : Option (Seat N h)) (own after : Seat N h) → HasKeptIfAny g before → g.has_kept (node_of own)
+    → KeptBelow g (number + 1) number before own after
+own_below {O} {N} {h} g number before own after kept owned e seat low at =
+    elim (slot_cases number before own after e seat at) [
+      | inl found ↦ subst (λ (x : Seat N h). g.has_kept (node_of x)) found.1 owned
+      | inr more ↦ elim more [
+        | inl found ↦ absurd (omega (arith, found.0, low))
+        | inr found ↦ subst (λ (x : Option (Seat N h)). HasKeptIfAny g x) found.1 kept
+      ]
+    ]
+
+-- one that may be there has kept what it did
+pub kept_if_any : {O N : Type 0} {h : Nodes N} (g : Ghosts O N) (x y : Option (Seat N h)) → NoneOrBoth (KeepsSeat g) x y → HasKeptIfAny g y
+kept_if_any g None None both = tt
+kept_if_any g (Some x) (Some y) both = both.kept
+kept_if_any g None (Some y) none = absurd none
+kept_if_any g (Some x) None none = absurd none
 
 -- one that is down is there
 pub down_there : {N : Type 0} {h : Nodes N} (found : Option (Seat N h)) → is_up_if_any found ≡ false → (seat : Seat N h) × (found ≡ Some seat) × (is_up seat ≡ false)

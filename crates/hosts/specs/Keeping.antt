@@ -1,5 +1,5 @@
 -- Hosts whose nodes keep what they did by commits.
-use Rattle.std.specs.Prelude.{◌≡◌, ℕ, false, Option, Some, None}
+use Rattle.std.specs.Prelude.{◌≡◌, ◌<◌, ℕ, false, Option, Some, None}
 use Rattle.node.specs.declared.node.Node.{Ghosts as Nodes}
 use Rattle.proposer.specs.declared.fault.NodeFault.{NodeFault}
 use Rattle.seats.specs.Keeping.{IsSameNode}
@@ -13,6 +13,10 @@ use Rattle.hosts.specs.declared.opens.Opens.{Ghosts}
 -- a crash leaves all that its nodes did
 abbrev pub HaveKept : {O N : Type 0} {g : Ghosts O N} {h : Nodes N} → Host O N g h → Type 0
 HaveKept {O} {N} {g} {h} host = (e : ℕ) (seat : Seat N h) → seat_of host e ≡ Some seat → g.has_kept (node_of seat)
+
+-- the same of those of the epochs below this one
+abbrev pub HaveKeptBelow : {O N : Type 0} {g : Ghosts O N} {h : Nodes N} → ℕ → Host O N g h → Type 0
+HaveKeptBelow {O} {N} {g} {h} below host = (e : ℕ) (seat : Seat N h) → e < below → seat_of host e ≡ Some seat → g.has_kept (node_of seat)
 
 -- a node in its seat did nothing but keep what it did
 abbrev pub IsSameSeat : {N : Type 0} {h : Nodes N} → Seat N h → Seat N h → Type 0
@@ -54,6 +58,13 @@ pub record RelatesSeats {O N : Type 0} {g : Ghosts O N} {h : Nodes N} (R : Seat 
 -- its node of an epoch is down
 abbrev pub IsDownIn : {O N : Type 0} {g : Ghosts O N} {h : Nodes N} → Host O N g h → ℕ → Type 0
 IsDownIn {O} {N} {g} {h} host e = (seat : Seat N h) × (seat_of host e ≡ Some seat) × (is_up seat ≡ false)
+
+-- this node of an epoch is its, and is down
+pub record IsDownNode {O N : Type 0} {g : Ghosts O N} {h : Nodes N} (host : Host O N g h) (e : ℕ) (node : N) : Type 0 where
+  pub seat : Seat N h
+  pub is : seat_of host e ≡ Some seat
+  pub down : is_up seat ≡ false
+  pub same : node ≡ node_of seat
 
 -- its node of an epoch failed to keep what it did, and is down
 pub record FailsToKeep {O N : Type 0} {g : Ghosts O N} {h : Nodes N} (old : Host O N g h) (e : ℕ) (why : NodeFault) (new : Host O N g h) : Type 0 where

@@ -2,8 +2,8 @@
 
 ghost use Rattle.std.specs.Prelude.{◌≡◌, false, true, IfErr, MatchOption, OnErr, OnOk};
 ghost use Rattle.hosts.specs.Hosts.{AreMembers, KeepsTrust, SameHost, StandsAs, are_up};
-ghost use Rattle.hosts.specs.Keeping.{FailsIfAny, FailsInSeat, FailsToKeep, HasKeptIfAny, HaveKept, IsDownIn};
-ghost use Rattle.hosts.specs.Keeping.{IsSameSeat};
+ghost use Rattle.hosts.specs.Keeping.{FailsIfAny, FailsInSeat, FailsToKeep, HasKeptIfAny, HaveKept};
+ghost use Rattle.hosts.specs.Keeping.{HaveKeptBelow, IsDownIn, IsDownNode, IsSameSeat};
 ghost use Rattle.hosts.specs.Keeping.{KeepsSeat, NoneOrBoth, RelatesSeats};
 ghost use Rattle.hosts.specs.Views.{HostView};
 ghost use Rattle.seats.specs.Occupant.{is_up, node_of};
@@ -86,7 +86,34 @@ impl<O: Opens> Host<O> {
         None
     }
 
-    /// Its nodes keep what they did: where the first of them fails to, its epoch and why. That node is down then.
+    /// A node that is down, if one is, and its epoch, where the host is let go.
+    pub fn into_crashed(self) -> Option<(u64, O::Node)>
+        ensures { MatchOption result (are_up self ≡ true) (λ fallen. IsDownNode self fallen.0 fallen.1) }
+    {
+        let Host {
+            number,
+            before,
+            own,
+            after,
+            ..
+        } = self;
+        if !own.is_up() {
+            return Some((number, own.into_node()));
+        }
+        if !after.is_up() {
+            return Some((number + 1, after.into_node()));
+        }
+        let Some(before) = before else {
+            return None;
+        };
+        if before.is_up() {
+            return None;
+        }
+        Some((number - 1, before.into_node()))
+    }
+
+    /// Its nodes keep what they did, from the lowest epoch on: where one of them fails to, its epoch and why. That node is
+    /// down then, and those of the epochs below have kept what they did.
     pub fn keep(&mut self) -> Result<(), (u64, NodeFault)>
         ensures keeps { OnOk result (RelatesSeats (KeepsSeat O.Opens) self.old self.new) }
         ensures kept { OnOk result (HaveKept self.new) }
@@ -98,6 +125,7 @@ impl<O: Opens> Host<O> {
         ensures trust { KeepsTrust self.old self.new }
         ensures down { OnErr result (are_up self.new ≡ false) }
         ensures fails { IfErr result (λ why. FailsToKeep self.old why.0 why.1 self.new) }
+        ensures below { IfErr result (λ why. HaveKeptBelow why.0 self.new) }
     {
         self.keep_each()
     }
@@ -107,6 +135,7 @@ impl<O: Opens> Host<O> {
         ensures nodes { RelatesSeats IsSameSeat self.old self.new }
         ensures down { OnErr result (are_up self.new ≡ false) }
         ensures fails { IfErr result (λ why. FailsToKeep self.old why.0 why.1 self.new) }
+        ensures below { IfErr result (λ why. HaveKeptBelow why.0 self.new) }
     {
         if let Err(why) = keep_if_any::<O>(&mut self.before) {
             return Err((self.number - 1, why));

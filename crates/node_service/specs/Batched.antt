@@ -1,7 +1,7 @@
 -- Lines that are served in batches: turns, with commits between them.
 use Rattle.std.specs.Prelude.{◌≡◌, ◌⊎◌, ℕ, zero, suc, ◌-◌, ◌^◌, ◌≤◌, List, [], ◌∷◌, ◌++◌, length, map, Bool, true, false}
-use Rattle.std.specs.Prelude.{Result, Ok, Err}
-use Rattle.std.specs.List.{flat_map}
+use Rattle.std.specs.Prelude.{Option, None, Some, Result, Ok, Err}
+use Rattle.std.specs.List.{flat_map, take_while}
 use Rattle.std.specs.Io.KnownBytes.{Appends, Consumes, Keeps}
 use Rattle.node_lines.specs.Input.{IsDropped, IsLine, ReadsLast}
 use Rattle.node_lines.specs.Lines.{longest_line}
@@ -91,11 +91,43 @@ abbrev pub FailsToTell : {O : Type 0} → Outputs O → List ℕ → Unwritten �
 FailsToTell {O} output text why o o' =
     output.fails o text why o' ⊎ ((held : O) × Appends (output.bytes_held o) (output.bytes_held held) text × output.fails_to_send held why o')
 
+-- of these replies the first ones were written, and then the next one couldn't be
+abbrev pub StopsAt : {R O : Type 0} → (R → List ℕ) → Outputs O → List R → Unwritten → O → O → Type 0
+StopsAt {R} {O} text output replies why o o' =
+    (front later : List R) × (next : R) × (held : O) × (replies ≡ front ++ next ∷ later)
+    × Appends (output.bytes_held o) (output.bytes_held held) (flat_map text front) × output.fails held (text next) why o'
+
+-- behind a commit that failed and is told so, these replies are told: all before the first one that may not be
+abbrev pub left_of : {A R : Type 0} → Keepers A R → R → List R → List R
+left_of keeper told replies = take_while (keeper.may_tell told) replies
+
+-- a crash leaves what came of each line whose reply may be told there
+abbrev pub IsLeft : {A R : Type 0} → Keepers A R → R → A → Type 0
+IsLeft {A} {R} keeper told a = (reply : R) → keeper.may_tell told reply ≡ true → keeper.leaves a reply
+
+-- these replies were told there, and then what is told of the commit
+abbrev pub TellsLeft : {A R O : Type 0} → Keepers A R → (R → List ℕ) → Outputs O → R → List R → O → O → Type 0
+TellsLeft {A} {R} {O} keeper text output told replies o o' =
+    (held : O) × Appends (output.bytes_held o) (output.bytes_held held) (flat_map text (left_of keeper told replies))
+    × Appends (output.bytes_held held) (output.bytes_held o') (text told)
+
+-- or one of these couldn't be
+abbrev pub FailsToTellLeft : {A R O : Type 0} → Keepers A R → (R → List ℕ) → Outputs O → R → List R → Unwritten → O → O → Type 0
+FailsToTellLeft {A} {R} {O} keeper text output told replies why o o' =
+    StopsAt text output (left_of keeper told replies) why o o'
+    ⊎ ((held : O) × Appends (output.bytes_held o) (output.bytes_held held) (flat_map text (left_of keeper told replies))
+    × FailsToTell output (text told) why held o')
+
 -- of these texts the first ones were written, and then the next one couldn't be, or these couldn't be sent out
 abbrev pub FailsWithin : {R O : Type 0} → (R → List ℕ) → Outputs O → List R → Unwritten → O → O → Type 0
 FailsWithin {R} {O} text output replies why o o' =
     (front back : List R) × (held : O) × (replies ≡ front ++ back) × Appends (output.bytes_held o) (output.bytes_held held) (flat_map text front)
     × (output.fails_to_send held why o' ⊎ ((next : R) × (later : List R) × (back ≡ next ∷ later) × output.fails held (text next) why o'))
+
+-- what is there
+abbrev pub those : {R : Type 0} → Option R → List R
+those None = []
+those (Some reply) = reply ∷ []
 
 -- all is kept, by commits alone or without any, and these were replied
 pub record Closes {A R O : Type 0} (keeper : Keepers A R) (text : R → List ℕ) (output : Outputs O) (replies : List R) (a : A) (o : O) (a' : A) (o' : O) : Type 0 where
@@ -113,14 +145,16 @@ Takes keeper text output reply replies a o replies' a' o' =
     (Closes keeper text output (replies ++ reply ∷ []) a o a' o' × (replies' ≡ []))
     ⊎ ((replies' ≡ replies ++ reply ∷ []) × (a' ≡ a) × (o' ≡ o))
 
--- a commit failed, which was told, or couldn't be; or what was replied before couldn't be sent out, or what is replied
--- now, behind the commit, couldn't be
+-- a commit failed, which was told behind the replies that are left, or these couldn't be told; or what was replied before
+-- couldn't be sent out, or what is replied now, behind the commit, couldn't be
 abbrev pub FailsToClose : {A R O : Type 0} → Keepers A R → (R → List ℕ) → Outputs O → List R → BatchedEnd → A → O → A → O → Type 0
 FailsToClose {A} {R} {O} keeper text output replies ends.Uncommitted a o a' o' =
-    (told : R) × keeper.fails a told a' × (keeper.up a' ≡ false) × Appends (output.bytes_held o) (output.bytes_held o') (text told)
+    (told : R) × (sent : O) × Keeps (output.bytes_held o) (output.bytes_held sent) × keeper.fails a told a' × (keeper.up a' ≡ false) × IsLeft keeper told a'
+    × TellsLeft keeper text output told replies sent o'
 FailsToClose {A} {R} {O} keeper text output replies (ends.Unwritten why) a o a' o' =
     ((a' ≡ a) × output.fails_to_send o why o')
-    ⊎ (((told : R) × (sent : O) × Keeps (output.bytes_held o) (output.bytes_held sent) × keeper.fails a told a' × FailsToTell output (text told) why sent o')
+    ⊎ (((told : R) × (sent : O) × Keeps (output.bytes_held o) (output.bytes_held sent) × keeper.fails a told a' × IsLeft keeper told a'
+    × FailsToTellLeft keeper text output told replies why sent o')
     ⊎ ((n : ℕ) × Commits keeper n a a' × keeper.has_kept a' × FailsWithin text output replies why o o'))
 FailsToClose keeper text output replies other a o a' o' = ⊥
 
@@ -136,12 +170,13 @@ EndsBatchedBy {A} {R} {I} {O} keeper text input output ends.Unreadable a i o a' 
 EndsBatchedBy {A} {R} {I} {O} keeper text input output ends.Uncommitted a i o a' i' o' =
     (turns waiting : List (List ℕ × R)) × (before : A) × (rest : I) × (sent : O) × (told : R)
     × ServesBatched keeper text input output turns [] waiting a i o before rest sent × DoesNoMore keeper input rest i'
-    × keeper.fails before told a' × (keeper.up a' ≡ false) × Appends (output.bytes_held sent) (output.bytes_held o') (text told)
+    × keeper.fails before told a' × (keeper.up a' ≡ false) × IsLeft keeper told a' × TellsLeft keeper text output told (replies_in waiting) sent o'
 EndsBatchedBy {A} {R} {I} {O} keeper text input output (ends.Unwritten why) a i o a' i' o' =
     (turns unseen waiting : List (List ℕ × R)) × (before : A) × (rest : I) × (sent : O)
     × ServesBatched keeper text input output turns unseen waiting a i o before rest sent × DoesNoMore keeper input rest i'
     × (((a' ≡ before) × output.fails_to_send sent why o')
     ⊎ (((turn : List ℕ × R) × (later : List (List ℕ × R)) × (unseen ≡ turn ∷ later) × (a' ≡ before) × output.fails sent (text turn.1) why o')
-    ⊎ ((told : R) × keeper.fails before told a' × FailsToTell output (text told) why sent o')))
+    ⊎ ((told : R) × (unseen ≡ []) × keeper.fails before told a' × IsLeft keeper told a'
+    × FailsToTellLeft keeper text output told (replies_in waiting) why sent o')))
 EndsBatchedBy {A} {R} {I} {O} keeper text input output ends.Spent a i o a' i' o' =
     (turns : List (List ℕ × R)) × ServesBatched keeper text input output turns [] [] a i o a' i' o' × (length turns ≡ 2 ^ 64 - 1)

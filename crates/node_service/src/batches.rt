@@ -1,13 +1,14 @@
 //! Whatever keeps what it did by commits, over lines: those that have come together share a commit.
 
-ghost use Rattle.std.specs.Prelude.{◌≡◌, ◌⊎◌, ◌++◌, ◌∷◌, [], ℕ, List, Result, IfErr, IfOk, IsOk, IsTrue, MatchOption};
-ghost use Rattle.std.specs.Prelude.{OnErr, OnOk, false, true};
-ghost use Rattle.std.specs.List.{Contains, flat_map};
+ghost use Rattle.std.specs.Prelude.{◌≡◌, ◌⊎◌, ◌++◌, ◌∷◌, ◌<◌, [], ℕ, List, Result, IfErr, IfOk, IsOk, IsTrue, MatchOption};
+ghost use Rattle.std.specs.Prelude.{OnErr, OnOk, false, length, true};
+ghost use Rattle.std.specs.List.{Contains, flat_map, prefix_len};
 ghost use Rattle.std.specs.Io.KnownBytes.{Appends};
 ghost use Rattle.node_lines.specs.Input.{LineComes};
 ghost use Rattle.node_service.specs.Came.{next_of};
 ghost use Rattle.node_service.specs.Batched.{Closes, Commits, EndsBatchedBy, FailsAt, FailsToClose, FailsToTell};
-ghost use Rattle.node_service.specs.Batched.{FailsWithin, Takes, comes_apart};
+ghost use Rattle.node_service.specs.Batched.{FailsToTellLeft, FailsWithin, IsLeft, StopsAt, Takes, TellsLeft};
+ghost use Rattle.node_service.specs.Batched.{comes_apart, left_of, those};
 ghost use Rattle.node_lines.specs.declared.fault.LineFault.{LineFault as WhyNot};
 ghost use Rattle.node_lines.specs.declared.input.Next.TheVariants as next;
 
@@ -109,21 +110,113 @@ fn tell<T: Told, O: Outbox>(alloc: Global, told: &T, output: &mut O) -> Result<(
     output.send_out()
 }
 
-/// Writes replies of one that has kept all that it did, and sends them out.
+/// Writes replies of one that has kept all that it did, and the last one if there is one, and sends them out.
 fn put_all_kept<K: Keeper, O: Outbox>(
     alloc: Global,
     keeper: &K,
     replies: &[K::Reply],
+    last: &Option<K::Reply>,
     output: &mut O,
 ) -> Result<(), Unwritten>
     requires { K.has_kept keeper.now }
-    ensures written { OnOk result (Appends (O.bytes_held output.old) (O.bytes_held output.new) (flat_map K.Reply.text replies.now)) }
-    ensures fails { IfErr result (λ why. FailsWithin K.Reply.text O.Outbox replies.now why output.old output.new) }
+    ensures written { OnOk result (Appends (O.bytes_held output.old) (O.bytes_held output.new) (flat_map K.Reply.text (replies.now ++ those last.now))) }
+    ensures fails { IfErr result (λ why. FailsWithin K.Reply.text O.Outbox (replies.now ++ those last.now) why output.old output.new) }
 {
     for reply in replies {
         put_kept(alloc, keeper, reply, output)?;
     }
+    if let Some(reply) = last {
+        put_kept(alloc, keeper, reply, output)?;
+    }
     output.send_out()
+}
+
+/// Writes a reply that may be told behind a commit that failed.
+fn put_left<K: Keeper, O: Outbox>(
+    alloc: Global,
+    told: &K::Reply,
+    reply: &K::Reply,
+    output: &mut O,
+) -> Result<(), Unwritten>
+    requires { K.may_tell told.now reply.now ≡ true }
+    ensures written { OnOk result (Appends (O.bytes_held output.old) (O.bytes_held output.new) (K.Reply.text reply.now)) }
+    ensures fails { IfErr result (λ why. O.fails output.old (K.Reply.text reply.now) why output.new) }
+{
+    output.put(alloc, reply)
+}
+
+/// Writes the replies before the first one that may not be told there. Gives whether these are all.
+fn put_front<K: Keeper, O: Outbox>(
+    alloc: Global,
+    told: &K::Reply,
+    replies: &[K::Reply],
+    output: &mut O,
+) -> Result<bool, Unwritten>
+    ensures all { IfOk result (λ all. IsTrue all → prefix_len (K.may_tell told.now) replies.now ≡ length replies.now) }
+    ensures some { IfOk result (λ all. all ≡ false → prefix_len (K.may_tell told.now) replies.now < length replies.now) }
+    ensures written { OnOk result (Appends (O.bytes_held output.old) (O.bytes_held output.new)
+        (flat_map K.Reply.text (left_of K.Keeper told.now replies.now))) }
+    ensures fails { IfErr result (λ why. StopsAt K.Reply.text O.Outbox (left_of K.Keeper told.now replies.now) why output.old output.new) }
+{
+    for reply in replies {
+        if !K::may_tell(told, reply) {
+            return Ok(false);
+        }
+        put_left::<K, O>(alloc, told, reply, output)?;
+    }
+    Ok(true)
+}
+
+/// Writes the last reply, if there is one and it may be told there.
+fn put_last<K: Keeper, O: Outbox>(
+    alloc: Global,
+    told: &K::Reply,
+    last: &Option<K::Reply>,
+    output: &mut O,
+) -> Result<(), Unwritten>
+    ensures written { OnOk result (Appends (O.bytes_held output.old) (O.bytes_held output.new)
+        (flat_map K.Reply.text (left_of K.Keeper told.now (those last.now)))) }
+    ensures fails { IfErr result (λ why. StopsAt K.Reply.text O.Outbox (left_of K.Keeper told.now (those last.now)) why output.old output.new) }
+{
+    match last {
+        Some(reply) if K::may_tell(told, reply) => put_left::<K, O>(alloc, told, reply, output),
+        _ => Ok(()),
+    }
+}
+
+/// Writes all that may be told there.
+fn put_all_left<K: Keeper, O: Outbox>(
+    alloc: Global,
+    told: &K::Reply,
+    replies: &[K::Reply],
+    last: &Option<K::Reply>,
+    output: &mut O,
+) -> Result<(), Unwritten>
+    ensures written { OnOk result (Appends (O.bytes_held output.old) (O.bytes_held output.new)
+        (flat_map K.Reply.text (left_of K.Keeper told.now (replies.now ++ those last.now)))) }
+    ensures fails { IfErr result (λ why. StopsAt K.Reply.text O.Outbox (left_of K.Keeper told.now (replies.now ++ those last.now)) why
+        output.old output.new) }
+{
+    let all = put_front::<K, O>(alloc, told, replies, output)?;
+    if all {
+        return put_last::<K, O>(alloc, told, last, output);
+    }
+    Ok(())
+}
+
+/// A commit failed: it writes the replies that may be told all the same, and then what is told of that.
+fn tell_failed<K: Keeper, O: Outbox>(
+    alloc: Global,
+    told: &K::Reply,
+    replies: &[K::Reply],
+    last: &Option<K::Reply>,
+    output: &mut O,
+) -> Result<(), Unwritten>
+    ensures written { OnOk result (TellsLeft K.Keeper K.Reply.text O.Outbox told.now (replies.now ++ those last.now) output.old output.new) }
+    ensures fails { IfErr result (λ why. FailsToTellLeft K.Keeper K.Reply.text O.Outbox told.now (replies.now ++ those last.now) why output.old output.new) }
+{
+    put_all_left::<K, O>(alloc, told, replies, last, output)?;
+    tell(alloc, told, output)
 }
 
 /// Keeps what it did, where something waits for that or there is no room for more.
@@ -135,6 +228,7 @@ fn keep<K: Keeper>(keeper: &mut K) -> Result<(), K::Reply>
     ensures commits { OnOk result ((n : ℕ) × Commits K.Keeper n keeper.old keeper.new) }
     ensures stays { OnOk result (K.up keeper.new ≡ K.up keeper.old) }
     ensures fails { IfErr result (λ told. K.fails keeper.old told keeper.new) }
+    ensures left { IfErr result (λ told. IsLeft K.Keeper told keeper.new) }
     ensures down { OnErr result (K.up keeper.new ≡ false) }
 {
     if keeper.waits() || keeper.is_full() {
@@ -143,7 +237,38 @@ fn keep<K: Keeper>(keeper: &mut K) -> Result<(), K::Reply>
     Ok(())
 }
 
-/// Keeps what it did, and writes the replies that wait for it. What was written before is sent out first.
+/// Keeps what it did, and writes the replies that wait for it, and the last one if there is one. What was written before
+/// is sent out first.
+fn close_all<K: Keeper, O: Outbox>(
+    alloc: Global,
+    keeper: &mut K,
+    replies: &mut Vec<K::Reply>,
+    last: Option<K::Reply>,
+    output: &mut O,
+) -> Result<(), BatchedEnd>
+    requires { K.has_noted keeper.old }
+    ensures closed { OnOk result (Closes K.Keeper K.Reply.text O.Outbox (replies.old.items ++ those last) keeper.old output.old keeper.new output.new) }
+    ensures none { OnOk result (replies.new.items ≡ []) }
+    ensures fails { IfErr result (λ end. FailsToClose K.Keeper K.Reply.text O.Outbox (replies.old.items ++ those last) end
+        keeper.old output.old keeper.new output.new) }
+{
+    if let Err(why) = output.send_out() {
+        return Err(BatchedEnd::Unwritten(why));
+    }
+    if let Err(told) = keep(keeper) {
+        if let Err(why) = tell_failed::<K, O>(alloc, &told, replies, &last, output) {
+            return Err(BatchedEnd::Unwritten(why));
+        }
+        return Err(BatchedEnd::Uncommitted);
+    }
+    if let Err(why) = put_all_kept(alloc, keeper, replies, &last, output) {
+        return Err(BatchedEnd::Unwritten(why));
+    }
+    replies.clear();
+    Ok(())
+}
+
+/// The same with no last one.
 fn close<K: Keeper, O: Outbox>(
     alloc: Global,
     keeper: &mut K,
@@ -155,20 +280,7 @@ fn close<K: Keeper, O: Outbox>(
     ensures none { OnOk result (replies.new.items ≡ []) }
     ensures fails { IfErr result (λ end. FailsToClose K.Keeper K.Reply.text O.Outbox replies.old.items end keeper.old output.old keeper.new output.new) }
 {
-    if let Err(why) = output.send_out() {
-        return Err(BatchedEnd::Unwritten(why));
-    }
-    if let Err(told) = keep(keeper) {
-        return match tell(alloc, &told, output) {
-            Ok(()) => Err(BatchedEnd::Uncommitted),
-            Err(why) => Err(BatchedEnd::Unwritten(why)),
-        };
-    }
-    if let Err(why) = put_all_kept(alloc, keeper, replies, output) {
-        return Err(BatchedEnd::Unwritten(why));
-    }
-    replies.clear();
-    Ok(())
+    close_all(alloc, keeper, replies, None, output)
 }
 
 /// The same where it is to be done, and else nothing.
@@ -210,24 +322,6 @@ fn close_before<K: Keeper, O: Outbox>(
     }
 }
 
-/// The same before a reply that there is no room for.
-fn close_with<K: Keeper, O: Outbox>(
-    reply: &K::Reply,
-    alloc: Global,
-    keeper: &mut K,
-    replies: &mut Vec<K::Reply>,
-    output: &mut O,
-) -> Result<(), BatchedEnd>
-    requires { K.has_noted keeper.old }
-    ensures closed { OnOk result (Closes K.Keeper K.Reply.text O.Outbox (replies.old.items ++ reply.now ∷ []) keeper.old output.old keeper.new output.new) }
-    ensures none { OnOk result (replies.new.items ≡ []) }
-    ensures fails { IfErr result (λ end. FailsToClose K.Keeper K.Reply.text O.Outbox (replies.old.items ++ reply.now ∷ []) end
-        keeper.old output.old keeper.new output.new) }
-{
-    close(alloc, keeper, replies, output)?;
-    put_one(alloc, keeper, reply, output)
-}
-
 /// Writes a reply where nothing waits, and else lets it wait too.
 fn take<K: Keeper, O: Outbox>(
     reply: K::Reply,
@@ -245,7 +339,7 @@ fn take<K: Keeper, O: Outbox>(
         return put_one(alloc, keeper, &reply, output);
     }
     if let Err(refused) = replies.push(reply) {
-        return close_with(&refused.value, alloc, keeper, replies, output);
+        return close_all(alloc, keeper, replies, Some(refused.value), output);
     }
     Ok(())
 }

@@ -37,6 +37,12 @@ pub trait Keeper {
     // From the first on a commit failed, of which this is told, and it was the second then.
     ghost fails: { Self → Self.Reply → Self → Type 0 };
 
+    // Behind a commit that failed, of which the first is told, the second may be told all the same.
+    ghost may_tell: { Self.Reply → Self.Reply → Bool };
+
+    // A crash leaves what came of the line that had this reply.
+    ghost leaves: { Self → Self.Reply → Type 0 };
+
     fn can_act(&self) -> bool
         ensures { result ≡ up self.now };
 
@@ -61,7 +67,12 @@ pub trait Keeper {
     fn is_full(&self) -> bool
         ensures { result ≡ false → has_room self.now };
 
-    /// Keeps what it did. Where that fails it is down, and this is to be told in place of the first reply that waits.
+    /// Whether a reply may be told behind a commit that failed, of which this is told.
+    fn may_tell(told: &Self::Reply, reply: &Self::Reply) -> bool
+        ensures { result ≡ may_tell told.now reply.now };
+
+    /// Keeps what it did. Where that fails it is down, and this is to be told in place of the first reply that waits and
+    /// may not be told.
     fn commit(&mut self) -> Result<(), Self::Reply>
         requires { has_noted self.old }
         ensures kept { OnOk result (has_kept self.new) }
@@ -70,5 +81,6 @@ pub trait Keeper {
         ensures commits { OnOk result (commits self.old self.new) }
         ensures stays { OnOk result (up self.new ≡ up self.old) }
         ensures fails { IfErr result (λ told. fails self.old told self.new) }
+        ensures left { IfErr result (λ told. (reply : Self.Reply) → may_tell told reply ≡ true → leaves self.new reply) }
         ensures down { OnErr result (up self.new ≡ false) };
 }

@@ -66,6 +66,14 @@ impl<N: Node> Seat<N> {
         &self.node
     }
 
+    /// The node, where its seat is let go.
+    pub fn into_node(self) -> N
+        ensures { result ≡ node_of self }
+    {
+        let Seat { node, up: _ } = self;
+        node
+    }
+
     /// The node does what it is asked. It crashes where it lacks memory or its store fails.
     pub fn act(&mut self, asked: Asked) -> Acted
         ensures { Acts self.old (ask_of asked.entry) (told result) (letters_of result) (outputs_of result) self.new }

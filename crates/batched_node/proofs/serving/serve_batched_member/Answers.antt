@@ -20,6 +20,8 @@ returns g c =
       has_kept = λ b. IsKept h b.noted.store (node_of b.seat).parts.records;
       commits = λ old new. new.seat ≡ old.seat;
       fails = λ old given new. (why : RecordsFault) × (given ≡ fault_of why) × FailsToStore h why old.noted.store new.noted.store (node_of old.seat).parts.records;
+      may_tell = λ told given. false;
+      leaves = λ b given. ⊥;
     })
-    (record { up = λ a. refl; replies = λ a came given b r. r; commits = λ a b r. r; apart = λ line. refl; kept = λ a r. r; fails = λ a given b r. r })
+    (record { up = λ a. refl; replies = λ a came given b r. r; commits = λ a b r. r; apart = λ line. refl; kept = λ a r. r; untold = λ given other. refl; fails = λ a given b r. r })
     g.I.Lines g.O.Outbox c.serve_batched.result c.serve_batched.ensures

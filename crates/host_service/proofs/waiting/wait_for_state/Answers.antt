@@ -1,4 +1,4 @@
-use Rattle.std.proofs.Common.{◌≡◌, ◌∙◌, Some, sym, subst}
+use Rattle.std.proofs.Common.{◌≡◌, Some, sym, subst}
 use Rattle.node_service.specs.Batched.{EndsBatchedBy}
 use Rattle.node_service.specs.declared.batches.BatchedEnd.{BatchedEnd}
 use Rattle.node_service.specs.declared.batches.BatchedEnd.TheVariants as ends

@@ -1,6 +1,6 @@
 use Rattle.std.proofs.Common.{◌≡◌, ◌∙◌, ◌+◌, ◌-◌, arith, rules}
-use Rattle.hosts.specs.Keeping.{FailsIfAny, FailsInSeat}
-use Rattle.hosts.proofs.Keeps.{failed_there}
+use Rattle.hosts.specs.Keeping.{FailsIfAny, FailsInSeat, KeepsSeat, NoneOrBoth}
+use Rattle.hosts.proofs.Keeps.{before_below, failed_there, kept_if_any, none_below, own_below}
 use Rattle.hosts.proofs.SlotLemmas.{slot_after, slot_before, slot_own}
 use Rattle.hosts.proofs.host.Host.keep_each.Goals as goal
 
@@ -47,3 +47,24 @@ returns-in-Err-keep_seat-2-clause-fails g c =
       is = slot_after host.number before own now;
       fails = fails;
     }
+
+pub returns-in-Err-clause-below : goal.returns-in-Err-clause-below
+returns-in-Err-clause-below g c =
+    let host = c.args.self.now in
+    none_below g.O.Opens host.number c.keep_if_any.new.seat host.own host.after host.first
+
+pub returns-in-Err-keep_seat-clause-below : goal.returns-in-Err-keep_seat-clause-below
+returns-in-Err-keep_seat-clause-below g c =
+    let host = c.args.self.now in
+    let before = c.keep_if_any.new.seat in
+    let keeps : NoneOrBoth (KeepsSeat g.O.Opens) host.before before = search rules in
+    before_below g.O.Opens host.number before c.keep_seat.new.seat host.after (kept_if_any g.O.Opens host.before before keeps)
+
+pub returns-in-Err-keep_seat-2-clause-below : goal.returns-in-Err-keep_seat-2-clause-below
+returns-in-Err-keep_seat-2-clause-below g c =
+    let host = c.args.self.now in
+    let before = c.keep_if_any.new.seat in
+    let own = c.keep_seat.new.seat in
+    let keeps : NoneOrBoth (KeepsSeat g.O.Opens) host.before before = search rules in
+    let owned : KeepsSeat g.O.Opens host.own own = search rules in
+    own_below g.O.Opens host.number before own c.keep_seat-2.new.seat (kept_if_any g.O.Opens host.before before keeps) owned.kept
