@@ -131,7 +131,7 @@ static RUN_WORDS: [(&[&str], &str); 20] = [
     ),
 ];
 
-static NODE_WORDS: [(&[&str], &str); 16] = [
+static NODE_WORDS: [(&[&str], &str); 14] = [
     (
         &["live", "plan.toml"],
         "Live(LiveWords { plan: \"plan.toml\", turns: 2000, verbose: false })",
@@ -185,13 +185,59 @@ static NODE_WORDS: [(&[&str], &str); 16] = [
         &["node", "0", "--members", "3", "--journal-sync"],
         "NotUnderstood",
     ),
+];
+
+static HOST_WORDS: [(&[&str], &str); 9] = [
     (
         &["host", "0", "--members", "3"],
-        "Host(HostWords { number: \"0\", members: \"3\", places: None })",
+        "Host(HostAsked { host: HostWords { number: \"0\", members: \"3\", places: None }, folder: None, journal: None })",
     ),
     (
         &["host", "--places=5", "4", "--members", "5"],
-        "Host(HostWords { number: \"4\", members: \"5\", places: Some(\"5\") })",
+        "Host(HostAsked { host: HostWords { number: \"4\", members: \"5\", places: Some(\"5\") }, \
+         folder: None, journal: None })",
+    ),
+    (
+        &["host", "0", "--members", "3", "--store", "d"],
+        "Host(HostAsked { host: HostWords { number: \"0\", members: \"3\", places: None }, \
+         folder: Some(FolderWords { path: \"d\", start: Left }), journal: None })",
+    ),
+    (
+        &["host", "0", "--members", "3", "--store=d", "--new"],
+        "Host(HostAsked { host: HostWords { number: \"0\", members: \"3\", places: None }, \
+         folder: Some(FolderWords { path: \"d\", start: New }), journal: None })",
+    ),
+    (
+        &[
+            "host",
+            "0",
+            "--members",
+            "3",
+            "--join",
+            "--store=d",
+            "--journal=n.txt",
+        ],
+        "Host(HostAsked { host: HostWords { number: \"0\", members: \"3\", places: None }, \
+         folder: Some(FolderWords { path: \"d\", start: Join }), \
+         journal: Some(JournalWords { path: \"n.txt\", is_synced: false }) })",
+    ),
+    (
+        &[
+            "host",
+            "0",
+            "--members",
+            "3",
+            "--store=d",
+            "--new",
+            "--join",
+        ],
+        "NotUnderstood",
+    ),
+    (&["host", "0", "--members", "3", "--new"], "NotUnderstood"),
+    (&["host", "0", "--members", "3", "--join"], "NotUnderstood"),
+    (
+        &["host", "0", "--members", "3", "--journal-sync"],
+        "NotUnderstood",
     ),
 ];
 
@@ -326,6 +372,11 @@ fn words_that_show_and_run(rt: HostRuntime) -> Result<(), Fail> {
 #[test]
 fn words_of_nodes(rt: HostRuntime) -> Result<(), Fail> {
     are_read_so(&rt, rt.alloc(), &NODE_WORDS)
+}
+
+#[test]
+fn words_of_hosts(rt: HostRuntime) -> Result<(), Fail> {
+    are_read_so(&rt, rt.alloc(), &HOST_WORDS)
 }
 
 #[test]

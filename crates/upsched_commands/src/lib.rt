@@ -4,6 +4,7 @@
 mod audit_run;
 mod host_run;
 mod journal_file;
+mod journaling;
 mod left_file;
 mod node_run;
 mod opening;

@@ -1,9 +1,8 @@
 //! `upsched node K --members M`, with its records in memory or in a file, and with a journal or without one.
 
-use crate::journal_file::JournalFile;
+use crate::journaling::{Serves, serve_lines};
 use node_lines::Ahead;
-use node_tape::{Heard, Spoken};
-use std::io::{BufReader, BufWriter, Read, Write};
+use std::io::{BufReader, Read, Write};
 use upsched_ends::{Fault, NodeWords, Status};
 use upsched_store::{member_of, node, stored_node};
 use upsched_words::JournalWords;
@@ -12,40 +11,22 @@ use upsched_words::JournalWords;
 const STORED_CAPACITY: usize = 65536;
 
 /// Ends as `node` does, or as `stored_node` where the words name a file of records.
-fn serve_node<I: Read + Ahead, O: Write, E: Write>(
-    rt: &HostRuntime,
-    words: &NodeWords<'_>,
-    input: &mut I,
-    output: &mut O,
-    errors: &mut E,
-) -> Status {
-    match words.store {
-        None => node(rt.alloc(), words, input, output, errors),
-        Some(path) => stored_node(rt, words, path, input, output, errors),
+impl Serves for NodeWords<'_> {
+    fn is_named(&self) -> bool {
+        member_of(self.number, self.members).is_some()
     }
-}
 
-/// The same, where each line is in the journal before it is obeyed, and its reply before that goes out: so no two share
-/// a sync. Nothing is obeyed where the journal's file can't be opened.
-fn serve_journaled<I: Read + Drop, O: Write, E: Write>(
-    rt: &HostRuntime,
-    words: &NodeWords<'_>,
-    journal: &JournalWords<'_>,
-    input: I,
-    output: &mut O,
-    errors: &mut E,
-) -> Status {
-    let (Ok(lines), Ok(replies)) = (
-        JournalFile::open(rt, journal),
-        JournalFile::open(rt, journal),
-    ) else {
-        let _ = writeln!(errors, "upsched: cannot write {}", journal.path);
-        return Status::Faulted;
-    };
-    let mut heard = Heard::new(rt.alloc(), input, lines);
-    match BufWriter::new(rt.alloc(), Spoken::new(output, replies)) {
-        Ok(mut spoken) => serve_node(rt, words, &mut heard, &mut spoken, errors),
-        Err(_) => Fault::Memory.told(errors),
+    fn serve<I: Read + Ahead, O: Write, E: Write>(
+        &self,
+        rt: &HostRuntime,
+        input: &mut I,
+        output: &mut O,
+        errors: &mut E,
+    ) -> Status {
+        match self.store {
+            None => node(rt.alloc(), self, input, output, errors),
+            Some(path) => stored_node(rt, self, path, input, output, errors),
+        }
     }
 }
 
@@ -62,13 +43,8 @@ pub(crate) fn run_node<I: Read, O: Write, E: Write>(
         None => BufReader::new(rt.alloc(), input),
         Some(_) => BufReader::with_capacity(rt.alloc(), STORED_CAPACITY, input),
     };
-    let Ok(mut input) = buffered else {
-        return Fault::Memory.told(errors);
-    };
-    match journal {
-        Some(journal) if member_of(words.number, words.members).is_some() => {
-            serve_journaled(rt, words, &journal, input, output, errors)
-        }
-        _ => serve_node(rt, words, &mut input, output, errors),
+    match buffered {
+        Ok(input) => serve_lines(rt, words, journal, input, output, errors),
+        Err(_) => Fault::Memory.told(errors),
     }
 }

@@ -74,7 +74,7 @@ fn run_command<'a, T: Threads + Wait + Clock + Sync + AllocGlobal, I: Read, O: W
         Words::Live(words) => run_live(rt, threads, words, output, errors),
         Words::Scheduler(form) => Ok(run_scheduler(rt.alloc(), *form, input, output, errors)),
         Words::Node(words, journal) => Ok(run_node(rt, words, *journal, input, output, errors)),
-        Words::Host(words) => Ok(run_host(rt.alloc(), words, input, output, errors)),
+        Words::Host(asked) => Ok(run_host(rt, asked, input, output, errors)),
         Words::Audit(words) => run_audit(rt, words, output, errors),
     }
 }

@@ -20,7 +20,7 @@ use upsched_ends::{Fault, Status};
 use upsched_node::unwritten;
 
 /// Where lines come from, in what is told of a fault.
-const INPUT_NAME: &str = "standard input";
+pub const INPUT_NAME: &str = "standard input";
 
 /// What is told of how the lines ended: nothing where there are no more. In memory no commit fails.
 fn ended<'a>(end: BatchedEnd) -> Result<(), Fault<'a>>
@@ -38,7 +38,7 @@ fn ended<'a>(end: BatchedEnd) -> Result<(), Fault<'a>>
 }
 
 /// Tells something, and sends it out.
-fn tell<O: Outbox>(alloc: Global, told: &HostReply, output: &mut O) -> Result<(), Unwritten>
+pub fn tell<O: Outbox>(alloc: Global, told: &HostReply, output: &mut O) -> Result<(), Unwritten>
     ensures written { OnOk result (Appends (O.bytes_held output.old) (O.bytes_held output.new) (host_text told.now)) }
     ensures fails { IfErr result (λ why. FailsToTell O.Outbox (host_text told.now) why output.old output.new) }
 {

@@ -2,8 +2,10 @@
 //! no file.
 #![tactic(auto)]
 
+mod folder_words;
 mod host_run;
 mod named;
 
-pub use host_run::host;
-pub use named::{HostWords, NO_PLACES, PLACES_NOT_GIVEN};
+pub use folder_words::{FolderWords, HostStart};
+pub use host_run::{INPUT_NAME, host, tell};
+pub use named::{HostWords, NO_PLACES, NoHost, PLACES_NOT_GIVEN, Who, named_who};

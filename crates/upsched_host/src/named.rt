@@ -39,7 +39,7 @@ pub enum NoHost {
 
 impl NoHost {
     /// The line that is told of it, without its end.
-    pub(crate) fn line(self) -> &'static str {
+    pub fn line(self) -> &'static str {
         match self {
             NoHost::Member => NO_MEMBER,
             NoHost::Places => NO_PLACES,
@@ -48,7 +48,7 @@ impl NoHost {
 }
 
 /// A host's number, how many members there are, and how many places of an epoch count.
-pub(crate) type Who = (NodeId, Members, u64);
+pub type Who = (NodeId, Members, u64);
 
 /// The number of places that the words say, whether an epoch may have so many or not.
 fn places_in(words: &HostWords<'_>) -> Option<u64>
@@ -84,7 +84,7 @@ fn are_places(places: u64) -> bool
 }
 
 /// The host that the words name.
-fn named_who(words: &HostWords<'_>) -> Result<Who, NoHost>
+pub fn named_who(words: &HostWords<'_>) -> Result<Who, NoHost>
     ensures { MatchResult result (NameHost words.now) (NameNone words.now) }
 {
     let Some((id, members)) = member_of(words.number, words.members) else {

@@ -6,5 +6,5 @@ mod usages;
 mod words;
 
 pub use words::{
-    AuditWords, DrawWords, JournalWords, StoreWords, Subject, Words, read_words, refused,
+    AuditWords, DrawWords, HostAsked, JournalWords, StoreWords, Subject, Words, read_words, refused,
 };

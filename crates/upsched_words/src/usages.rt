@@ -95,6 +95,22 @@ const MEMBERS: Argument = Argument(
     "How many nodes there are, 3 or 5",
 );
 
+/// The file of a journal.
+const JOURNAL: Argument = Argument(
+    "journal",
+    Value("FILE"),
+    Any,
+    "Appends each line to this file before it is obeyed, and its reply before it goes out",
+);
+
+/// The flag with which a journal is synced.
+const JOURNAL_SYNC: Argument = Argument(
+    "journal-sync",
+    Flag,
+    Only("journal"),
+    "Syncs the journal behind each line and each reply, for where the power may fail",
+);
+
 const MAPS: Usage = Usage {
     name: "maps",
     about: "Applies a plan's commands to one scheduler and prints their outputs",
@@ -169,7 +185,7 @@ const RUN: Usage = Usage {
             "verbose",
             Flag,
             Any,
-            "Also logs each fault and each crash of a node on standard error; what is printed stays the same",
+            "Also logs each fault and crash of a node, and why files are refused, on standard error; what is printed stays the same",
         ),
         Argument("json", Flag, NoneOf(&["verbose"]), JSON_HELP),
         Argument(
@@ -406,18 +422,8 @@ const NODE: Usage = Usage {
             Only("store"),
             "Begins with a new database; one that has this node's tables, even with nothing in them, is refused",
         ),
-        Argument(
-            "journal",
-            Value("FILE"),
-            Any,
-            "Appends each line to this file before it is obeyed, and its reply before it goes out",
-        ),
-        Argument(
-            "journal-sync",
-            Flag,
-            Only("journal"),
-            "Syncs the journal behind each line and each reply, for where the power may fail",
-        ),
+        JOURNAL,
+        JOURNAL_SYNC,
     ],
     group: None,
 };
@@ -435,8 +441,31 @@ const HOST: Usage = Usage {
             Any,
             "How many places of each epoch count, the same for all hosts, 1 to 999000; 65536 where it isn't given",
         ),
+        Argument(
+            "store",
+            Value("DIR"),
+            Any,
+            "Keeps its records and its state in this folder; without it they are in memory, and end with the process",
+        ),
+        Argument(
+            "new",
+            Flag,
+            Only("store"),
+            "Begins as a new host; a folder that has a state, or records of anything, is refused",
+        ),
+        Argument(
+            "join",
+            Flag,
+            Only("store"),
+            "Waits for a state to begin by, which the line join gives; a folder that has one is refused",
+        ),
+        JOURNAL,
+        JOURNAL_SYNC,
     ],
-    group: None,
+    group: Some(Group {
+        name: "START",
+        arguments: &["new", "join"],
+    }),
 };
 
 const AUDIT: Usage = Usage {

@@ -13,17 +13,28 @@ use upsched_check::{CaptureWords, CheckWords, Form, StatsWords};
 use upsched_ends::{
     Fault, LiveWords, MapsWords, NodeWords, RunWords, ScriptWords, ShowWords, Status,
 };
-use upsched_host::HostWords;
+use upsched_host::{FolderWords, HostStart, HostWords};
 use upsched_resume::ResumeWords;
 use upsched_scheduler::ReplyForm;
 
-/// What `node` is told of its journal.
+/// What `node` or `host` is told of its journal.
 #[derive(Clone, Copy, Debug)]
 pub struct JournalWords<'a> {
     /// The path of its file.
     pub path: &'a str,
     /// Whether the file is synced behind each line and each reply.
     pub is_synced: bool,
+}
+
+/// What `host` is told.
+#[derive(Clone, Copy, Debug)]
+pub struct HostAsked<'a> {
+    /// Which host it is.
+    pub host: HostWords<'a>,
+    /// Its folder, if its records aren't in memory.
+    pub folder: Option<FolderWords<'a>>,
+    /// Its journal, if it keeps one.
+    pub journal: Option<JournalWords<'a>>,
 }
 
 /// What `audit` is told.
@@ -118,8 +129,8 @@ pub enum Words<'a> {
     Scheduler(ReplyForm),
     /// Is one node over lines, which may keep a journal of them.
     Node(NodeWords<'a>, Option<JournalWords<'a>>),
-    /// Is one member of a log that goes on, over lines.
-    Host(HostWords<'a>),
+    /// Is one member of a log that goes on, over lines, of which it may keep a journal.
+    Host(HostAsked<'a>),
     /// Prints whether journals are those of nodes that kept the rules.
     Audit(AuditWords<'a>),
 }
@@ -238,15 +249,31 @@ fn node_words<'a>(words: &ArgMatches<'a>) -> Option<Words<'a>> {
     Some(Words::Node(told, journal_words(words)))
 }
 
+/// What `host` is told of its folder, if it has one.
+fn folder_words<'a>(words: &ArgMatches<'a>) -> Option<FolderWords<'a>> {
+    let path = words.get_str("store")?;
+    let start = match (words.get_flag("new"), words.get_flag("join")) {
+        (true, _) => HostStart::New,
+        (false, true) => HostStart::Join,
+        (false, false) => HostStart::Left,
+    };
+    Some(FolderWords { path, start })
+}
+
 /// What `host` is told.
 fn host_words<'a>(words: &ArgMatches<'a>) -> Option<Words<'a>> {
     let number = words.get_str("K")?;
     let members = words.get_str("members")?;
     let places = words.get_str("places");
-    Some(Words::Host(HostWords {
+    let host = HostWords {
         number,
         members,
         places,
+    };
+    Some(Words::Host(HostAsked {
+        host,
+        folder: folder_words(words),
+        journal: journal_words(words),
     }))
 }
 
@@ -268,7 +295,7 @@ fn script_words<'a>(words: &ArgMatches<'a>) -> Option<Words<'a>> {
     Some(Words::Script(told))
 }
 
-/// What `node` is told of its journal, if it keeps one.
+/// What `node` or `host` is told of its journal, if it keeps one.
 fn journal_words<'a>(words: &ArgMatches<'a>) -> Option<JournalWords<'a>> {
     let path = words.get_str("journal")?;
     let is_synced = words.get_flag("journal-sync");

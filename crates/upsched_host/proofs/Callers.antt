@@ -1,0 +1,2 @@
+-- What crates above cite: words name one host.
+pub use Rattle.upsched_host.proofs.AsNamed.{as_named}

@@ -1,0 +1,5 @@
+pub mod Ends
+pub mod Lines
+pub mod Folder
+pub mod Serving
+pub mod Running
