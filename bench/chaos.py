@@ -26,6 +26,7 @@ import random
 import select
 import shutil
 import signal
+import sqlite3
 import sys
 import tempfile
 import time
@@ -62,7 +63,7 @@ class Run:
         self.disks = [Disk(os.path.join(folder, str(k)), may_mount) for k in range(members)]
         self.journals = [os.path.join(folder, f"{k}.journal") for k in range(members)] if has_journals else []
         own = self.journals or [None] * members
-        self.members = [Member(program, k, members, disk, self.counts, own[k]) for k, disk in enumerate(self.disks)]
+        self.members = [self.member(k, disk, own[k]) for k, disk in enumerate(self.disks)]
         pick = self.random.choice
         self.loss, self.repeat, self.delay = pick([0, 0.02, 0.1, 0.2]), pick([0, 0.1, 0.3]), pick([0, 2, 10])
         self.kills, self.stops = pick([0.01, 0.03, 0.06]), pick([0, 0.01, 0.02])
@@ -74,12 +75,21 @@ class Run:
         # Letters are given each so many ticks, all that have come together.
         self.heap = pick([1, 1, 8, 40])
 
+    def member(self, number, disk, journal):
+        return Member(self.program, number, len(self.disks), disk, self.counts, journal)
+
     # Troubles.
+
+    def is_leader(self, it):
+        return it is self.leader
+
+    def may_start(self, it):
+        return it.process is None
 
     def victim(self):
         """The leader before others, of those that run."""
         alive = [it for it in self.members if it.process and it.stopped_until is None and not it.was_killed]
-        leading = [it for it in alive if it is self.leader]
+        leading = [it for it in alive if self.is_leader(it)]
         return self.random.choice(leading if leading and self.random.random() < 0.6 else alive or [None])
 
     def strike(self, number):
@@ -89,7 +99,7 @@ class Run:
         self.strikes.append((self.random.random() * self.random.choice([0, 0.001, 0.005, 0.02]), it, number))
         if number == signal.SIGKILL:
             self.counts["kills"] += 1
-            self.counts["kills of leaders"] += it is self.leader
+            self.counts["kills of leaders"] += self.is_leader(it)
             it.was_killed = True
         else:
             self.counts["stops"] += 1
@@ -119,7 +129,7 @@ class Run:
                 happens()
         self.mend(lambda until: until is not None and until <= self.now)
         for it in self.members:
-            if it.process is None and self.random.random() < 0.15:
+            if self.may_start(it) and self.random.random() < 0.15:
                 it.start()
                 if self.random.random() < 0.1:
                     self.counts["kills at a start"] += 1
@@ -139,8 +149,8 @@ class Run:
 
     # Letters.
 
-    def post(self, node, to, digits):
-        """A letter goes its way, once, more than once, or never."""
+    def post(self, node, to, line):
+        """The line of a letter goes its way, once, more than once, or never."""
         if self.sides and self.sides[node] != self.sides[to] and self.random.random() < 0.7:
             self.counts["lost"] += 1
             return
@@ -154,26 +164,26 @@ class Run:
             if self.sides and self.sides[node] != self.sides[to]:
                 due = max(due, self.parted_until)
             self.order += 1
-            heapq.heappush(self.mail, (due, self.random.random() if self.delay else self.order, to, digits))
+            heapq.heappush(self.mail, (due, self.random.random() if self.delay else self.order, to, line))
 
     def deliver(self):
         if self.now % self.heap:
             return
         while self.mail and self.mail[0][0] <= self.now:
-            to, digits = heapq.heappop(self.mail)[2:]
+            to, line = heapq.heappop(self.mail)[2:]
             it = self.members[to]
             if not it.is_ready:
                 self.counts["lost"] += 1
                 continue
-            it.ask(b"letter " + digits)
+            it.ask(line)
             self.counts["letters"] += 1
             self.counts["letters in heaps"] += self.heap > 1
             if self.random.random() < 0.01:
                 other = self.random.choice(self.members)
                 cut = self.random.choice([2, 4, 16, 18])
                 if other.is_ready and other is not it and not self.journals:
-                    other.ask(b"letter " + digits, is_hostile=True)
-                it.ask(b"letter " + digits[:-cut], is_hostile=True)
+                    other.ask(line, is_hostile=True)
+                it.ask(line[:-cut], is_hostile=True)
 
     def feed(self):
         """Asks for work: to lead, to propose, to release and to tell."""
@@ -259,7 +269,7 @@ class Run:
     def take(self, it, word, first, rest):
         if word == b"letter":
             self.printed.take_letter(it.number, int(first), bytes.fromhex(rest.decode()))
-            self.post(it.number, int(first), rest)
+            self.post(it.number, int(first), b"letter " + rest)
             return
         it.prefix += 1
         if int(first) != it.prefix:
@@ -291,9 +301,13 @@ class Run:
         # A node that crashed as its disk was full is seen to be down once its last reply is read.
         self.settle()
         for it in self.members:
-            if it.process is None:
+            if self.may_start(it):
                 it.start()
         self.settle()
+        self.lead()
+
+    def lead(self):
+        """One leads, and then all are told what they lack."""
         for _ in range(20):
             it = self.random.choice(self.members)
             it.ask(b"lead")
@@ -320,13 +334,16 @@ class Run:
             self.settle()
         raise Difference("healed, and a node still lags")
 
-    def end(self):
-        """Ends the processes, and compares what is left of them."""
+    def close(self):
         for it in self.members:
             life, it.process = it.process, None
             status, errors = life.close()
             if status or errors:
                 raise Difference(f"node {it.number} ended with status {status} and {errors!r} at the end of its lines")
+
+    def end(self):
+        """Ends the processes, and compares what is left of them."""
+        self.close()
         last = self.printed.check_all_released()
         files = [File(it.file) for it in self.members]
         for node, file in enumerate(files):
@@ -340,9 +357,12 @@ class Run:
         check_outputs(self.program, self.printed.outputs, learned, table_of)
         if self.journals:
             self.counts["journal lines"] += check_journals(self.program, self.journals)
-        maps, minislots, grants = check_maps(self.printed.outputs)
-        self.counts.update({"places": last, "released": last * len(files), "maps": maps, "grants": grants})
-        self.counts["minislots"] += minislots
+        self.count(self.printed.outputs)
+        self.counts["released"] += last * len(files)
+
+    def count(self, outputs):
+        maps, minislots, grants = check_maps(outputs)
+        self.counts.update({"places": len(outputs), "maps": maps, "grants": grants, "minislots": minislots})
 
     def go(self):
         for it in self.members:
@@ -372,15 +392,15 @@ def told(counts):
     return " ".join(f"{name.replace(' ', '-')} {count}" for name, count in sorted(counts.items()))
 
 
-def one_run(program, members, seed, folder, has_journals):
-    """The counts of a run, or None where it differs."""
+def one_run(begin, members, seed, folder):
+    """The counts of a run, or None where it differs. `begin` makes one of so many members, a seed and a folder."""
     room = tempfile.mkdtemp(prefix=f"chaos-{seed}-", dir=folder)
-    run, kept, began = Run(program, members, seed, room, has_journals), None, time.monotonic()
+    run, kept, began = begin(members, seed, room), None, time.monotonic()
     try:
         run.go()
         print(f"seed {seed} members {members} seconds {time.monotonic() - began:.1f} {told(run.counts)}", flush=True)
         return run.counts
-    except (Difference, ValueError) as why:
+    except (Difference, ValueError, sqlite3.Error) as why:
         kept = tempfile.mkdtemp(prefix=f"chaos-lines-{seed}-", dir=folder)
         print(f"seed {seed} members {members} DIFFERS: {why}; its lines are in {kept}", flush=True)
         return None
@@ -389,8 +409,8 @@ def one_run(program, members, seed, folder, has_journals):
         shutil.rmtree(room, ignore_errors=True)
 
 
-def main():
-    words = argparse.ArgumentParser()
+def words_of(usage):
+    words = argparse.ArgumentParser(description=usage, formatter_class=argparse.RawDescriptionHelpFormatter)
     words.add_argument("--seconds", type=float, required=True)
     words.add_argument("--seed", type=int, required=True)
     words.add_argument("--members", type=int, choices=(3, 5))
@@ -398,22 +418,32 @@ def main():
     words.add_argument("--journal", action="store_true")
     words.add_argument("--folder")
     words.add_argument("--program", default=os.path.join(ROOT, "crates/upsched/out/upsched"))
-    given = words.parse_args()
+    return words
+
+
+def runs(given, begin):
+    """Run after run, as the words say; the status."""
     if not os.access(given.program, os.X_OK):
-        sys.exit("bench/chaos.py: no proved program: ./upsched --build makes it")
+        sys.exit(f"{sys.argv[0]}: no proved program: ./upsched --build makes it")
     end, totals, sizes, differ = time.monotonic() + given.seconds, collections.Counter(), collections.Counter(), 0
     for index in range(given.runs):
         if time.monotonic() > end:
             break
         seed = given.seed + index
         members = given.members or (3 if seed % 2 == 0 else 5)
-        counts = one_run(given.program, members, seed, given.folder, given.journal)
+        counts = one_run(begin, members, seed, given.folder)
         sizes[members] += 1
         differ += counts is None
         totals.update(counts or {})
-    runs = " ".join(f"runs-of-{members} {count}" for members, count in sorted(sizes.items()))
-    print(f"all: seeds {given.seed} to {given.seed + sum(sizes.values()) - 1} {runs} {told(totals)} differ {differ}")
+    done = " ".join(f"runs-of-{members} {count}" for members, count in sorted(sizes.items()))
+    last = given.seed + sum(sizes.values()) - 1
+    print(f"all: seeds {given.seed} to {last} {done} {told(totals)} differ {differ}", flush=True)
     return 1 if differ or not totals["places"] else 0
+
+
+def main():
+    given = words_of(__doc__).parse_args()
+    return runs(given, lambda members, seed, room: Run(given.program, members, seed, room, given.journal))
 
 
 if __name__ == "__main__":

@@ -99,10 +99,15 @@ class File:
 
 def check_file(printed, node, file, last, offered):
     """The file keeps what its node printed, and has learned what is chosen."""
-    if file.sound != "ok" or file.owner != bytes([node, printed.members]):
-        raise Difference(f"file of node {node}: {file.sound}, owner {file.owner!r}")
     if sorted(file.learned) != list(range(1, last + 1)):
         raise Difference(f"file of node {node}: {len(file.learned)} places learned, where {last} are chosen")
+    check_kept(printed, node, file, offered)
+
+
+def check_kept(printed, node, file, offered):
+    """The file is this node's, and keeps what it printed."""
+    if file.sound != "ok" or file.owner != bytes([node, printed.members]):
+        raise Difference(f"file of node {node}: {file.sound}, owner {file.owner!r}")
     promise = max([file.ballots.get(1, 0), *(ballot for ballot, _ in file.votes.values())])
     if promise < printed.promised[node]:
         raise Difference(f"{BACKWARD}: node {node} promised {printed.promised[node]}, its file has {promise}")

@@ -5,7 +5,7 @@ import resource
 import subprocess
 
 from chaos_checks import Difference
-from node_process import NodeProcess
+from node_process import LineProcess, node_words
 
 DISK = 32 << 20
 FREE = resource.RLIM_INFINITY
@@ -54,14 +54,17 @@ class Member:
         self.lines.append((mark, bytes(line)))
 
     def start(self):
-        """A new life. It is a new node's as long as no process over this file said anything: then nothing of it stays."""
+        """A new life. It is a new node's as long as no process over this file said anything: nothing stays then."""
         new = not self.was_answered
         if new:
             self.remove()
-        self.process = NodeProcess(self.program, self.number, self.members, self.file, new, self.journal)
+        words = node_words(self.program, self.number, self.members, self.file, new, self.journal)
         self.hello = b"node %d of %d %s" % (self.number, self.members, b"fresh" if new else b"restarted")
-        self.is_ready = False
-        self.note("=", b"started" + b" --new" * new)
+        self.live(LineProcess(words), b" --new" * new)
+
+    def live(self, process, words):
+        self.process, self.is_ready = process, False
+        self.note("=", b"started" + words)
         self.was_full = self.full_until is not None
         self.was_killed = self.crashes = False
         self.prefix = 0
@@ -70,13 +73,23 @@ class Member:
 
     def remove(self):
         """Nobody heard of what a start left that was killed before its first line."""
-        for end in ("", "-wal"):
+        for path in self.files():
             with contextlib.suppress(FileNotFoundError):
-                os.unlink(self.file + end)
+                os.unlink(path)
+
+    def files(self):
+        return [self.file, self.file + "-wal"]
+
+    def tells_cause(self, errors):
+        """Whether a node that ended while its disk was full says why, where that was its database."""
+        cause = "no room" if self.disk.is_own else "a read or write failed"
+        if errors.startswith(("upsched: crashed: ", "upsched: store: ")):
+            return errors.endswith(f": {self.file}: {cause}\n")
+        return errors.startswith("upsched: ")
 
     def limit(self):
         """No file may grow beyond its size now."""
-        sizes = [os.path.getsize(self.file + end) for end in ("", "-wal") if os.path.exists(self.file + end)]
+        sizes = [os.path.getsize(path) for path in self.files() if os.path.exists(path)]
         if self.process:
             with contextlib.suppress(ProcessLookupError):
                 resource.prlimit(self.process.process.pid, resource.RLIMIT_FSIZE, (max([0, *sizes]), FREE))
@@ -111,12 +124,16 @@ class Member:
             return False
         return bool(life.waiting or life.unsent or self.was_killed or self.crashes)
 
+    def is_crash(self, line):
+        """Whether this is the fault of a node that is down."""
+        return line[:8] in (b"fault 5 ", b"fault 6 ", b"fault 7 ")
+
     def read(self):
         whole = self.process.read_some()
         for reply in whole:
             for line in reply.lines:
                 self.note(">", line)
-            self.crashes |= reply.lines[0][:8] in (b"fault 5 ", b"fault 6 ", b"fault 7 ")
+            self.crashes |= self.is_crash(reply.lines[0])
         self.replies += whole
         if self.process.ended:
             self.bury()
@@ -134,6 +151,12 @@ class Member:
         self.note("=", f"ended {status} {errors!r}".encode())
         if self.was_killed and status == -9:
             return
+        if self.is_refused(status, errors):
+            return
         self.counts["crashes of full disks"] += self.was_full
-        if not self.was_full or status != 1 or errors.count("\n") != 1 or not errors.startswith("upsched: "):
+        if not self.was_full or status != 1 or errors.count("\n") != 1 or not self.tells_cause(errors):
             raise Difference(f"node {self.number} ended with status {status} and {errors!r}")
+
+    def is_refused(self, status, errors):
+        """Whether a life may end so that had no beginning."""
+        return False

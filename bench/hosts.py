@@ -30,10 +30,12 @@ QUICK = Sizes(4096, 65_536, 20_000, 3_500)
 class HostCluster(Cluster):
     """Three hosts. Host 0 leads each epoch, and is asked to lead the next one before this one is full."""
 
-    def __init__(self, program, places):
+    def __init__(self, program, places, folders=()):
+        """Each over one of these folders, or in memory."""
         self.places, self.led, self.offered, self.sizes = places, 0, 0, None
         words = ["--members", str(MEMBERS), "--places", str(places)]
-        self.start([[program, "host", str(host), *words] for host in range(MEMBERS)])
+        kept = [["--store", folder, "--new"] for folder in folders] or [[]] * MEMBERS
+        self.start([[program, "host", str(host), *words, *kept[host]] for host in range(MEMBERS)])
 
     def ask_in(self, epoch, host, words):
         self.ask(host, b"%d/%d %s" % (epoch, self.places, words))

@@ -8,8 +8,16 @@
 # With the word `quick` epochs have 4,096 places, 65,536 in all, and it takes some 30 seconds. Its figures have no
 # goals.
 #
-# Usage: bench/hosts.sh [quick]
+# With the word `files` the hosts have folders: places a second beside three nodes over files; the memory, the disk and
+# a start of hosts at the last place of an epoch of 65,536, with 1,000 flows; a new machine, from `--join` to its first
+# vote; how long a host takes to go on in the next epoch, and how many syncs (strace, Debian's package, counts them);
+# and the disk behind 10 and behind 1,000 epochs of 1,000 places. PROCESS_BENCH_DIR in the environment is where files
+# go.
+#
+# Usage: bench/hosts.sh [files] [quick]
 set -euo pipefail
 . "$(dirname -- "${BASH_SOURCE[0]}")/common.sh"
 needs_program
-python3 "$root/bench/hosts.py" --program "$program" "$@"
+bench=hosts
+[ "${1-}" != files ] || bench=host_files
+python3 "$root/bench/$bench.py" --program "$program" "$@"

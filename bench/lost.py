@@ -5,11 +5,14 @@ fresh, and no ballot that was tried before, but where the loss can't be seen.
 Usage: bench/lost.py [PROGRAM] [--cuts N] [--pairs N] [--makings N] [--seed S]
 
 Five nodes of five lead again and again, over files, and both files of each are copied behind many of their replies,
-up to behind a checkpoint. Then: a log cut at N places (20,000); N pairs (2,000) of a database and a log of two times;
-the log of another node; one file that isn't there, or is empty; a link and a folder in a file's place; files without
-rights; a file that can't grow; and N new nodes (200) that are killed at any moment: behind a first line the database
-alone says whose it is, as SQLite reads it. Of each it says how many were tried, how many were seen, and how many were
-answered otherwise than they should be; each of these is a line. It ends with status 1 where there is one.
+up to behind a checkpoint. Then: a log cut at N places (20,000); N pairs (2,000) of a database and a log of two times,
+which have to be seen where the transactions that each counts tell; the log of another node; a database without tables
+beside such a log; a log without commits, which standard error has to say; one file that isn't there, or is empty; a
+link and a folder in a file's place; files without rights; a file that can't grow, and a full disk where
+one may be mounted; databases that SQLite made, each with another fault; and N new nodes (200) that are killed at any
+moment: behind a first line the database alone says whose it is, as SQLite reads it. Of each it says how many were
+tried, how many were seen, and how many were answered otherwise than they should be; each of these is a line. It ends
+with status 1 where there is one.
 
 What is expected of a cut goes by the frames of the log (SQLite's fileformat2.html, section 4), read here by
 themselves.
@@ -34,6 +37,30 @@ NOBODY = 65534
 # What a case is: its loss has to be seen, or can't be, or may be; or nothing that was answered is lost.
 SEEN, UNSEEN, EITHER, WHOLE = "seen", "unseen", "either", "whole"
 
+# What makes the tables of a node, and rows of one that did nothing.
+BALLOT = "CREATE TABLE ballot (id INTEGER PRIMARY KEY, number INTEGER NOT NULL) STRICT"
+VOTE = "CREATE TABLE vote (place INTEGER PRIMARY KEY, ballot INTEGER NOT NULL, value BLOB NOT NULL) STRICT"
+LEARNED = "CREATE TABLE learned (place INTEGER PRIMARY KEY, value BLOB NOT NULL) STRICT"
+FACT = "CREATE TABLE fact (id INTEGER PRIMARY KEY, bytes BLOB NOT NULL) STRICT"
+NUMBERS = "INSERT INTO ballot VALUES (0, 0), (1, 0), (2, 2)"
+# Databases that no node wrote, by what makes them, and what is wrong of each.
+FOREIGN = [
+    ("table ballot isn't there", ["CREATE TABLE note (text)"]),
+    ("table vote isn't there", [BALLOT]),
+    ("table vote isn't there", [BALLOT, LEARNED]),
+    ("table ballot isn't there", [VOTE, LEARNED]),
+    ("table learned isn't there", [BALLOT, VOTE, FACT]),
+    ("table vote isn't a node's", [BALLOT, VOTE.replace("BLOB", "TEXT"), LEARNED]),
+    ("table ballot isn't a node's", [VOTE, BALLOT, LEARNED]),
+    ("table learned isn't a node's", [BALLOT, VOTE, LEARNED.replace(" STRICT", "")]),
+    ("table fact isn't a node's", [BALLOT, VOTE, LEARNED, FACT.replace("bytes", "text")]),
+    ("more than a node's tables", [BALLOT, VOTE, "CREATE TABLE note (text)"]),
+    ("more than a node's tables", [BALLOT, VOTE, LEARNED, "CREATE INDEX numbers ON ballot (number)"]),
+    ("rows of table vote aren't a node's", [BALLOT, VOTE, LEARNED, NUMBERS, "INSERT INTO vote VALUES (0, 8, x'00')"]),
+    ("rows of table learned aren't a node's", [BALLOT, VOTE, LEARNED, NUMBERS, "INSERT INTO learned VALUES (0, x'')"]),
+    ("rows of table ballot or fact aren't a node's", [BALLOT, VOTE, LEARNED, NUMBERS.replace("(2, 2)", "(2, 7)")]),
+]
+
 
 # Ignores the signal of a file beyond its limit, sets it, and becomes a program.
 LIMITED = """
@@ -45,11 +72,13 @@ os.execv(sys.argv[2], sys.argv[2:])
 
 
 class Moment:
-    """Both files of a node behind a reply, and the last ballot that it tried."""
+    """Both files of a node behind a reply, the last ballot that it tried, and what they count, as SQLite reads it: the
+    database by itself, and both. None where there is no count."""
 
     def __init__(self, node, path, ballot):
         self.node, self.ballot = node, ballot
         self.database, self.log = (read(path), read(path + "-wal"))
+        self.alone, self.both = counted(self.database), counted(self.database, self.log)
 
 
 class Case:
@@ -66,6 +95,22 @@ def read(path):
         return file.read()
 
 
+def counted(database, log=None):
+    """The transactions that a copy of these files counts."""
+    with tempfile.TemporaryDirectory(prefix="count-") as room:
+        path = os.path.join(room, "copy.db")
+        for name, held in ((path, database), (path + "-wal", log)):
+            if held is not None:
+                with open(name, "wb") as file:
+                    file.write(held)
+        with contextlib.closing(sqlite3.connect(path)) as found:
+            try:
+                rows = found.execute("SELECT bytes FROM fact WHERE id = 1").fetchall()
+            except sqlite3.DatabaseError:
+                rows = []
+    return int.from_bytes(rows[0][0], "big") if rows else None
+
+
 def frames(log):
     """Of each frame of this log's own salts whether it commits. Behind them are those of a log before, or nothing."""
     found = []
@@ -77,14 +122,15 @@ def frames(log):
 
 
 def cut(moment, place):
-    """A log cut at a place of its own, or behind its last frame: then nothing is lost."""
+    """A log cut at a place of its own, or behind its last frame: then nothing is lost, but it may show."""
     own, log = frames(moment.log), moment.log[:place]
     number, within = divmod(place - HEAD, FRAME + PAGE)
     state = rf"log missing: PATH-wal is cut at byte {place}"
     if place < HEAD:
         kind = SEEN
     elif number >= len(own):
-        kind = WHOLE
+        # Of a frame that has begun behind them nothing tells that it is none, up to its salts.
+        kind = WHOLE if number > len(own) or not 0 < within < 16 else SEEN if within <= 8 else EITHER
     elif within == 0:
         kind = UNSEEN if number == 0 or own[number - 1] else SEEN
     else:
@@ -93,14 +139,17 @@ def cut(moment, place):
 
 
 def paired(one, other):
-    """The database of one time with the log of another one, which needn't show."""
+    """The database of one time with the log of another one. It shows where what the database counts is neither right
+    before what the log's commits do nor among that."""
+    commits = sum(frames(other.log))
+    first, count = (other.both or 0) - commits + 1, one.alone or 0
+    numbers = f"log missing: PATH-wal has commits {first} to {other.both}, PATH has {count}"
     kind = EITHER
-    if one.database == other.database:
+    if commits and not first - 1 <= count <= other.both:
+        kind = SEEN
+    elif one.database == other.database or one.log[:HEAD] == other.log[:HEAD] and one.ballot < other.ballot:
         kind = WHOLE
-    elif one.log[:HEAD] == other.log[:HEAD]:
-        kind = WHOLE if one.ballot < other.ballot else EITHER
-    state = r"log missing: PATH-wal has commits \d+ to \d+, PATH has \d+"
-    return Case(kind, other, one.database, other.log, [state])
+    return Case(kind, other, one.database, other.log, [numbers, "log missing: PATH-wal has commits that don't fit PATH"])
 
 
 class Lost:
@@ -246,28 +295,107 @@ class Lost:
             shutil.rmtree(self.folder)
 
     def tries_full(self, moment):
-        """A log that can't grow: the node ends, and goes on once it may."""
+        """A log that can't grow, long before a checkpoint: the node ends, and goes on once it may."""
         case = Case(WHOLE, moment, moment.database, moment.log)
         case.what = f"a file of node {moment.node} that can't grow"
         os.makedirs(self.folder, exist_ok=True)
         self.lay(case)
         wrong, size = self.wrong, max(len(it) for it in case.files)
-        limit = [sys.executable, "-c", LIMITED, str(size), self.program]
-        words = ["node", str(moment.node), "--members", str(MEMBERS), "--store", self.path(moment.node)]
-        said = subprocess.run([*limit, *words], input=b"lead\n" * 50, capture_output=True, timeout=600)
-        last, fault = said.stdout.splitlines()[-1], said.stderr.decode().strip()
-        if not re.match(rb"fault [67] ", last) or said.returncode != 1:
-            self.differs(case, "it ends with", (last, said.returncode))
-        if not fault.startswith(f"upsched: crashed: {self.path(moment.node)}: "):
+        tried, fault = self.leads_until(moment.node, 2000, limit=[sys.executable, "-c", LIMITED, str(size)])
+        if fault != f"upsched: crashed: {self.path(moment.node)}: a read or write failed":
             self.differs(case, "standard error", fault)
-        letters = [line.split()[2].decode() for line in said.stdout.splitlines() if line.startswith(b"letter ")]
-        tried = max([moment.ballot, *(int.from_bytes(bytes.fromhex(it)[3:11], "big") for it in letters)])
+        tried = max(moment.ballot, tried)
         state = self.states()[0].get(self.path(moment.node))
         line, found = self.start(moment.node)
         if state != "used" or line is None or found <= tried:
             self.differs(case, f"behind ballot {tried} it is {state}, and a start", (line, found))
         print(f"{case.what}: {'told' if self.wrong == wrong else 'WRONG'}", flush=True)
         shutil.rmtree(self.folder)
+
+    def leads_until(self, node, most, limit=()):
+        """The last ballot that a node tried before it ended, and what it said on standard error."""
+        words = [*limit, self.program, "node", str(node), "--members", str(MEMBERS), "--store", self.path(node)]
+        pipes = dict(stdin=subprocess.PIPE, stdout=subprocess.PIPE, stderr=subprocess.PIPE)
+        ballot = 0
+        with subprocess.Popen(words, **pipes) as it:
+            it.stdout.readline()
+            with contextlib.suppress(BrokenPipeError, SystemExit):
+                for _ in range(most):
+                    ballot = int.from_bytes(ask(it, b"lead")[node][3:11], "big")
+            return ballot, it.communicate()[1].decode().strip()
+
+    def tries_full_disk(self, node):
+        """A node on a disk of its own that becomes full says so, and goes on once there is room; none begins there."""
+        case = types.SimpleNamespace(what=f"a full disk of node {node}")
+        os.makedirs(self.folder)
+        mount = ["mount", "-t", "tmpfs", "-o", "size=8m", "upsched-lost", self.folder]
+        if subprocess.run(mount, capture_output=True).returncode != 0:
+            print(f"{case.what}: not tried, since none may be mounted", flush=True)
+            return
+        before, ballast, path = self.wrong, os.path.join(self.folder, "ballast"), self.path(node)
+        try:
+            self.start(node, "--new")
+            with contextlib.suppress(OSError), open(ballast, "wb", buffering=0) as file:
+                while file.write(bytes(PAGE)):
+                    pass
+            tried, fault = self.leads_until(node, 2000)
+            if fault != f"upsched: crashed: {path}: no room":
+                self.differs(case, "standard error", fault)
+            other = (node + 1) % MEMBERS
+            line, fault = self.start(other, "--new")
+            if line is not None or fault != f"upsched: store: {self.path(other)}: no room":
+                self.differs(case, "a start with --new", (line, fault))
+            os.unlink(ballast)
+            states, (line, found) = self.states()[0], self.start(node)
+            if states != {path: "used"} or line is None or found <= tried:
+                self.differs(case, f"behind ballot {tried} there are {states}, and a start", (line, found))
+        finally:
+            subprocess.run(["umount", "-l", self.folder], check=True)
+        print(f"{case.what}: {'told' if self.wrong == before else 'WRONG'}", flush=True)
+        shutil.rmtree(self.folder)
+
+    def tries_commitless(self, bases):
+        """A log that is cut to its header has no commit. Standard error says so, of no other, and all else goes on."""
+        before, tried = self.wrong, 0
+        for moment in (kept[-1] for kept in bases):
+            for log in (moment.log, moment.log[:HEAD]):
+                case, path = Case(UNSEEN, moment, moment.database, log), self.path(moment.node)
+                case.what = f"a log of {len(log)} bytes of node {moment.node}"
+                line = "" if any(frames(log)) else f"upsched: log without commits: {path}-wal\n"
+                words = ["node", str(moment.node), "--members", str(MEMBERS), "--store", path]
+                os.makedirs(self.folder, exist_ok=True)
+                for call, first in ((["check", "--store", self.folder], path), (words, f"node {moment.node} of")):
+                    self.lay(case)
+                    said, tried = self.run(call), tried + 1
+                    if said.stderr.decode() != line or said.returncode or not said.stdout.decode().startswith(first):
+                        self.differs(case, " ".join(call), (said.returncode, said.stdout, said.stderr))
+                shutil.rmtree(self.folder)
+        print(f"logs without commits, and with some: {tried} tried, {self.wrong - before} wrong", flush=True)
+
+    def tries_foreign(self):
+        """Databases that no node wrote: it is told of each what is wrong, and no start goes on there or begins. Of
+        tables that may be nobody's a start says that."""
+        before = self.wrong
+        for cause, texts in FOREIGN:
+            case = types.SimpleNamespace(what=f"a database by {texts}", node=0)
+            made, path = os.path.join(os.path.dirname(self.folder), "made.db"), self.path(0)
+            os.makedirs(self.folder, exist_ok=True)
+            with contextlib.closing(sqlite3.connect(made, isolation_level=None)) as database:
+                for text in ["PRAGMA journal_mode = WAL", *texts]:
+                    database.execute(text)
+                for end in ("", "-wal"):
+                    shutil.copy(made + end, path + end)
+            os.unlink(made)
+            states, status = self.states()
+            if states != {path: f"foreign: {cause}"} or status != 1:
+                self.differs(case, "check --store", (states, status))
+            for words in ([], ["--new"]):
+                line, fault = self.start(0, *words)
+                due = [f"upsched: store: {path}: no database of a node: {cause}", f"upsched: store of nobody: {path}"]
+                if line is not None or fault not in due:
+                    self.differs(case, f"a start {words}", (line, fault))
+            shutil.rmtree(self.folder)
+        print(f"foreign databases: {len(FOREIGN)} tried, {self.wrong - before} wrong", flush=True)
 
 
     # Files that are made.
@@ -362,6 +490,24 @@ def halves(bases):
         yield Case(SEEN, moment, b"", moment.log, *no_database)
 
 
+def tableless(bases, room):
+    """A database without tables beside a log. What a log with commits makes of it may be no database. Without one the
+    header tells it, where that counts a checkpoint behind the first."""
+    path = os.path.join(room, "tableless.db")
+    with contextlib.closing(sqlite3.connect(path, isolation_level=None)) as database:
+        for text in ("PRAGMA journal_mode = WAL", "CREATE TABLE note (text)", "DROP TABLE note", "VACUUM"):
+            database.execute(text)
+    blank, told = read(path), "database missing: PATH has no tables"
+    for moment in (moment for kept in bases for moment in kept):
+        faults = ["database missing: PATH: has no tables"]
+        if any(frames(moment.log)):
+            states = [told, r"log missing: PATH-wal .*", "foreign.*"]
+            others = [r"log missing: PATH-wal: .*", r"store: PATH: no database of a node.*"]
+            yield Case(SEEN, moment, blank, moment.log, states, faults + others)
+        if int.from_bytes(moment.log[12:16], "big") > 0:
+            yield Case(SEEN, moment, blank, moment.log[:HEAD], [told], faults)
+
+
 def exchanged(bases):
     """The log of another node, which needn't show: the database says whose it is."""
     for kept, others in zip(bases, bases[1:] + bases[:1]):
@@ -381,6 +527,8 @@ def main():
     words.add_argument("--leads", type=int, default=400, help="how often each node leads; 260 pass a checkpoint")
     words.add_argument("--seed", type=int, default=1)
     given = words.parse_args()
+    if not os.access(given.program, os.X_OK):
+        words.exit(1, f"lost.py: {given.program} isn't there\n")
     numbers = random.Random(given.seed)
     with tempfile.TemporaryDirectory(prefix="lost-") as room:
         os.chmod(room, 0o755)
@@ -394,12 +542,16 @@ def main():
         it.tries("two times", pairs(bases, given.pairs, numbers))
         it.tries("a file missing or empty", halves(bases))
         it.tries("the log of another node", exchanged(bases))
+        it.tries("a database without tables", tableless(bases, room))
+        it.tries_commitless(bases)
         last = bases[0][-1]
         it.tries_shut("a link in place", last, linked, ["unusable: no regular file"])
         it.tries_shut("a folder in place", last, replaced, ["unusable: no regular file"])
         user = {"user": NOBODY} if os.getuid() == 0 else {}
         it.tries_shut("no rights", last, lambda path: os.chmod(path, 0), ["unusable: permission denied"], **user)
-        it.tries_full(last)
+        it.tries_full(bases[0][1])
+        it.tries_full_disk(0)
+        it.tries_foreign()
         it.tries_makings(given.makings, numbers)
     print(f"{it.wrong} wrong")
     sys.exit(it.wrong > 0)

@@ -1,4 +1,5 @@
-"""A process of `upsched node`: lines go in, and its replies come out, each with the line that it answers."""
+"""A process of `upsched node` or `upsched host`: lines go in, and its replies come out, each with the line that it
+answers."""
 import collections
 import os
 import signal
@@ -24,15 +25,38 @@ class Reply:
         return len(self.lines) == self.wanted
 
 
-class NodeProcess:
-    """One life of a node. Its pipes don't block: `write_some` and `read_some` do what can be done."""
+class HostReply(Reply):
+    """The same of a host: before each line of a node's reply there is a number, and behind outputs one line more."""
 
-    def __init__(self, program, node, members, file=None, new=False, journal=None):
-        words = [program, "node", str(node), "--members", str(members)]
-        if file is not None:
-            words += ["--store", file] + ["--new"] * new
-        if journal is not None:
-            words += ["--journal", journal]
+    def takes(self, line):
+        if not self.lines:
+            words = line.split()
+            if len(words) == 3 and b"/" in words[0] and words[1] == b"sent" or words[:1] == [b"again"]:
+                self.wanted += int(words[-1])
+            elif words[:1] == [b"released"]:
+                self.wanted += int(words[1]) + 1
+        self.lines.append(line)
+        return len(self.lines) == self.wanted
+
+
+def node_words(program, node, members, file=None, new=False, journal=None):
+    words = [program, "node", str(node), "--members", str(members)]
+    if file is not None:
+        words += ["--store", file] + ["--new"] * new
+    return words + (["--journal", journal] if journal is not None else [])
+
+
+def host_words(program, host, members, places, folder, word=None, journal=None):
+    """`word` is --new or --join, if the host's first lines are to be these."""
+    words = [program, "host", str(host), "--members", str(members), "--places", str(places), "--store", folder]
+    return words + ([word] if word else []) + (["--journal", journal] if journal is not None else [])
+
+
+class LineProcess:
+    """One life of a node, or of a host. Its pipes don't block: `write_some` and `read_some` do what can be done."""
+
+    def __init__(self, words, kind=Reply):
+        self.kind = kind
         # The signal of a file beyond its limit stays ignored, as Python has it: the write is refused instead.
         self.process = subprocess.Popen(
             words,
@@ -47,12 +71,12 @@ class NodeProcess:
         os.set_blocking(self.input, False)
         os.set_blocking(self.output, False)
         self.unsent, self.rest = bytearray(), b""
-        self.waiting = collections.deque([Reply(None)])
+        self.waiting = collections.deque([kind(None)])
         self.ended = False
 
     def ask(self, line):
         self.unsent += line + b"\n"
-        self.waiting.append(Reply(line))
+        self.waiting.append(self.kind(line))
 
     def write_some(self):
         try:
@@ -91,9 +115,10 @@ class NodeProcess:
         self.signal(signal.SIGKILL)
 
     def close(self):
-        """Waits for the end: its status, and what it wrote to standard error."""
+        """Waits for the end: its status, and what it wrote to standard error, but that a log has no commit."""
         self.process.stdin.close()
-        errors = self.process.stderr.read().decode(errors="replace")
+        lines = self.process.stderr.read().decode(errors="replace").splitlines(keepends=True)
+        errors = "".join(line for line in lines if not line.startswith("upsched: log without commits: "))
         self.process.stderr.close()
         self.process.stdout.close()
         return self.process.wait(), errors

@@ -6,7 +6,8 @@ The node gets its lines twice, each time with a new file: one at a time, the nex
 at once. A reply goes out only when nothing that was written to the file or its log still waits for a sync. A reply
 that tells of something that is kept has a write and a sync since the replies before it went out. One at a time no write
 to standard output has parts of two replies, so each is flushed before the next line is waited for. All at once the
-lines share syncs: there are at most a third as many as replies that tell of something that is kept.
+lines share syncs: there are at most a third as many as replies that tell of something that is kept. Syncs before the
+node's first line make its database, and don't count.
 """
 import os
 import re
@@ -95,7 +96,7 @@ def events(trace, file):
 
 
 def check(name, replies, wanted, trace):
-    """Walks through the trace and the replies side by side; how many syncs there were."""
+    """Walks through the trace and the replies side by side; how many syncs there were behind the first line."""
     unsynced, wrote, synced, syncs, number, left = set(), False, False, 0, 0, len(replies[0])
     for event, what in events(trace, trace.removesuffix("trace") + "db"):
         if event == "write":
@@ -103,7 +104,7 @@ def check(name, replies, wanted, trace):
             wrote = True
         elif event == "sync":
             unsynced.discard(what)
-            synced, syncs = True, syncs + 1
+            synced, syncs = True, syncs + (number > 0)
         elif event == "out":
             if unsynced:
                 sys.exit(f"{name}: reply {number} went out, and {unsynced} waited for a sync")
@@ -135,7 +136,7 @@ def check_together(name, replies, wanted, trace):
             wrote = True
         elif event == "sync":
             unsynced.discard(what)
-            synced, syncs = True, syncs + 1
+            synced, syncs = True, syncs + (number > 0)
         elif event == "out":
             goes_out = True
             if unsynced:

@@ -84,12 +84,34 @@ class Carrier:
         return True
 
 
+def words_in(usage, count):
+    """The words of a program, which takes so many. With --help, and with others, it prints its usage and ends."""
+    words = sys.argv[1:]
+    if words in (["-h"], ["--help"]):
+        print(usage.strip())
+        sys.exit(0)
+    if len(words) != count or any(it.startswith("-") for it in words):
+        print(usage.strip(), file=sys.stderr)
+        sys.exit(2)
+    return words
+
+
+def run(main):
+    """Without a traceback where a pipe can't be used, or somebody stops it."""
+    try:
+        main()
+    except (OSError, KeyboardInterrupt) as why:
+        print(f"{os.path.basename(sys.argv[0])}: {why or 'interrupted'}", file=sys.stderr)
+        sys.exit(1)
+
+
 def main():
-    carrier, node = Carrier(sys.argv[2]), sys.argv[1].encode()
+    node, folder = words_in(__doc__, 2)
+    carrier, node = Carrier(folder), node.encode()
     carrier.reads(0, lambda line: carrier.take(node, line))
     while carrier.turn():
         pass
 
 
 if __name__ == "__main__":
-    main()
+    run(main)

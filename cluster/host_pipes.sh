@@ -12,11 +12,6 @@ here=$(cd -- "$(dirname -- "${BASH_SOURCE[0]}")" && pwd)
 wants_usage "$@"
 plan='' cuts='' places=65536 members=3
 
-# is_number WORD FIRST LAST: whether it is a whole number, not below the first one and not above the last one.
-is_number() {
-    [[ $1 =~ ^[0-9]{1,9}$ ]] && [ "$((10#$1))" -ge "$2" ] && [ "$((10#$1))" -le "$3" ]
-}
-
 while [ $# -gt 0 ]; do
     case $1 in
     --places | --members)
@@ -34,8 +29,8 @@ while [ $# -gt 0 ]; do
 done
 [ -n "$plan" ] || refuses 'no plan'
 cuts=${cuts:-0}
-is_number "$cuts" 0 999999999 || refuses "CUTS is '$cuts', no number up to 999999999"
-is_number "$places" 1 999000 || refuses "--places is '$places', not 1 to 999000"
+wants_cuts "$cuts"
+wants_places "$places"
 [ "$members" = 3 ] || [ "$members" = 5 ] || refuses "--members is '$members', not 3 or 5"
 look_at "$plan"
 pipes=$(mktemp -d)

@@ -17,10 +17,19 @@ leader to leader for twice as long, it asks the next host to lead the epoch that
 may come out, or not: so it offers a noop that it knows again, and behind it the commands that weren't proposed anew.
 Where the commands are over, and a later epoch has places, it fills an epoch with noops.
 
-A host that lags is told by one that is further. No host is asked to go on while another one is an epoch behind, but
-for one that is away, which said nothing for ten times that second; and a majority goes on with it. A host that is two
-epochs behind all others is left behind: they go on without it. Once it says something it gets the state of the furthest
-one, and joins.
+A host that lags is told by one that is further, and where that does nothing by another one: who joined behind an epoch
+has nothing of it. No host is asked to go on while another one is an epoch behind, but for one that is away, which said
+nothing for ten times that second; and a majority goes on with it. A host that is two epochs behind all others, or that
+none can tell what it lacks, is left behind: they go on without it. Once it answers a release it gets the state of the
+furthest one, and joins.
+
+A host over a folder may end and begin again: it releases its epoch from the start, which isn't shown again. One that
+waits (`--join`) is taken for a new machine in the place of one that died. It says so first, and where that is lost, by
+its answer to a release. Once it is there, as many others as are a majority of all members say in which epochs they are.
+It joins as soon as one is four epochs further than all of these.
+
+It begins when each host is there, or a majority is and ten times that second is over. Hosts that it doesn't hear of are
+asked to release.
 """
 import collections
 import heapq
@@ -34,8 +43,12 @@ AWAY = 10 * SILENCE
 IN_FLIGHT = 64
 # By how much the time of silence grows with each new leader and shrinks with each place that is released.
 GROWS, SHRINKS, LONGEST_SILENCE = 2, 0.999, 8 * SILENCE
+# By how many epochs a host has to be beyond the others' of the time at which one waits that lost its folder.
+BEYOND = 4
 # How many places a host may be behind the first one that released them: then offers wait.
 MOST_BEHIND = 1024
+# How often each that is further tells one in vain before that one joins.
+MOST_VAIN = 4
 PREPARE, ACCEPT = b"01", b"03"
 # Faults of an offer: the host doesn't lead the epoch, or its places are used.
 NOT_LEADING, ENDED = b"1", b"8"
@@ -51,10 +64,15 @@ class HostState:
         self.answered, self.moved = now, now
         # When it was asked to release, if it hasn't answered, and before when it isn't asked again.
         self.waiting, self.again, self.count = 0.0, 0.0, 0
-        # Whether it lags, and from which place of which epoch on it was told, when.
-        self.lags, self.told, self.told_at = False, None, 0.0
-        # When a state was last asked for it, which is two epochs behind all others.
-        self.joins_at = 0.0
+        # Whether it lags, and from which place of which epoch on it was told, when, and how often in vain.
+        self.lags, self.told, self.told_at, self.vain = False, None, 0.0, 0
+        # When a state was last asked for it, which is left behind, or waits; how many it was given and hasn't answered;
+        # when it was last asked whether it is there as it was, and when it last said so.
+        self.joins_at, self.joins_given, self.checks_at, self.checked = 0.0, 0, 0.0, 0.0
+        # Since when it waits, and from which epoch on it may join, once that is known.
+        self.waits_since, self.joins_from = None, None
+        # When the last release was asked that it answered, and up to which place its outputs were shown.
+        self.seen, self.shown = 0.0, 0
 
 
 class Epoch:
@@ -130,12 +148,43 @@ class HostSupervisor:
         elif word == b"joined":
             self.take_joined(self.hosts[me], me, int(rest))
         elif word == b"host":
-            self.take_first(me, rest.decode())
+            self.take_first(self.hosts[me], me, rest.decode())
+        elif line.endswith(b" error 11 NoState"):
+            self.take_no_state(self.hosts[me], me)
 
-    def take_first(self, host, words):
-        if words != f"{host} of {self.members} places {self.places}":
+    def take_first(self, it, host, words):
+        who, begins = words.split(), words.split()[5:]
+        if who[:5] != f"{host} of {self.members} places {self.places}".split():
             sys.exit(f"supervisor: host {host} says: host {words}")
-        self.hosts[host].is_there = True
+        it.is_there, it.joins_given = True, 0
+        if begins == ["waits"]:
+            self.take_waiting(it, host)
+        elif begins[:1] == ["restarted"]:
+            self.take_restarted(it, host, int(begins[1]))
+
+    def take_no_state(self, it, host):
+        """The answer to a state that it was given; else to a release: it waits, and its first line was lost."""
+        if it.joins_given:
+            it.joins_given -= 1
+        else:
+            self.take_waiting(it, host)
+
+    def take_waiting(self, it, host):
+        if it.waits_since is None:
+            it.is_there, it.is_behind, it.waits_since, it.joins_from = True, True, self.now, None
+            self.show(f"host {host} waits for a state")
+
+    def take_restarted(self, it, host, epoch):
+        """It leads nothing any more, and gives its epoch from the start."""
+        self.begins_at(it, epoch)
+        self.show(f"host {host} restarted in epoch {epoch}")
+        if host == self.leader:
+            self.heard = self.now - LONGEST_SILENCE - 1
+
+    def begins_at(self, it, epoch):
+        it.is_behind, it.lags, it.told, it.waiting, it.moved = False, False, None, 0.0, self.now
+        it.waits_since, it.again = None, 0.0
+        it.epoch, it.lacks, it.given = epoch, 1, (epoch - 1) * self.places
 
     def take_in(self, host, number, words):
         """A line of an epoch's node. Of the letters to all it looks at the one to the sender."""
@@ -189,9 +238,11 @@ class HostSupervisor:
             self.is_led(epoch)
 
     def take_place(self, host, place, text):
-        if self.outputs.setdefault(place, text) != text:
+        if place > self.compared and self.outputs.setdefault(place, text) != text:
             sys.exit(f"supervisor: hosts differ at place {place}")
-        self.show(f"host {host} place {place} {text}")
+        if place > self.hosts[host].shown:
+            self.hosts[host].shown = place
+            self.show(f"host {host} place {place} {text}")
         if place > self.furthest:
             self.furthest, self.heard, self.silence = place, self.now, max(SILENCE, SHRINKS * self.silence)
             self.is_chosen(self.epochs[(place - 1) // self.places + 1], (place - 1) % self.places + 1)
@@ -206,22 +257,36 @@ class HostSupervisor:
 
     def take_next(self, it, host, epoch, place):
         """The last line of a release."""
+        it.is_there, it.seen, it.checked = True, it.waiting or it.seen, self.now
         it.waiting, it.answered, it.again = 0.0, self.now, self.now + (0.0 if it.count else self.seconds)
         if epoch > it.epoch:
             self.show(f"host {host} epoch {epoch}")
         if (epoch, place) != (it.epoch, it.lacks):
             it.moved = self.now
         it.epoch, it.lacks, it.given = epoch, place, (epoch - 1) * self.places + place - 1
+        self.furthest = max(self.furthest, it.given)
 
     def take_state(self, digits):
-        """A state goes to all that are two epochs behind and say something."""
+        """A state goes to all that were left behind and are there as they were, and to those that wait for it."""
         for host, it in enumerate(self.hosts):
-            if it.is_behind and not self.is_away(it):
+            if it.is_behind and self.joins_by(it, host, int(digits[32:48], 16)):
+                it.joins_given += 1
                 self.ask(host, f"join {digits}")
 
+    def joins_by(self, it, host, epoch):
+        """Whether it may go to a state of that epoch. Who waits goes by where a majority was behind that. Another one
+        has just answered a release: who hasn't may be a new machine, of which nothing is known yet."""
+        if it.waits_since is None:
+            return self.now - it.checked < SILENCE
+        seen = [other for other in self.hosts if not other.is_behind and other.seen > it.waits_since]
+        if it.joins_from is None and 2 * len(seen) > self.members:
+            it.joins_from = max(other.epoch for other in seen) + BEYOND
+            self.show(f"host {host} waits for epoch {it.joins_from}")
+        return it.joins_from is not None and it.joins_from <= epoch
+
     def take_joined(self, it, host, epoch):
-        it.is_behind, it.lags, it.told, it.waiting, it.moved = False, False, None, 0.0, self.now
-        it.epoch, it.lacks, it.given = epoch, 1, (epoch - 1) * self.places
+        it.joins_given = max(0, it.joins_given - 1)
+        self.begins_at(it, epoch)
         self.show(f"host {host} joined epoch {epoch}")
 
     # What is left to offer.
@@ -271,6 +336,10 @@ class HostSupervisor:
         good = [host for host in order if not (self.hosts[host].is_behind or self.is_away(self.hosts[host]))]
         return (good or order)[0]
 
+    def is_ahead(self, number):
+        """Whether one that is there has no node of that epoch yet: it would refuse its letters, and lag on and on."""
+        return any(it.epoch + 1 < number for it in self.there() if not self.is_away(it))
+
     def leads(self, number):
         """Whether an epoch has this leader. It is asked to lead where it and a majority have a node of that epoch."""
         if self.epochs[number].leader != self.leader:
@@ -306,7 +375,7 @@ class HostSupervisor:
         """Offers in the first epoch that has places left. The next one is led before it has none."""
         number = max(it.epoch for it in self.hosts)
         while self.left() or any(it.in_flight() for n, it in self.epochs.items() if n >= number):
-            if not self.leads(number) or not self.fills(number, self.epochs[number]):
+            if self.is_ahead(number) or not self.leads(number) or not self.fills(number, self.epochs[number]):
                 return
             number += 1
 
@@ -353,13 +422,22 @@ class HostSupervisor:
                 it.is_behind = True
                 self.show(f"host {host} is two epochs behind all others")
             elif near and self.lags(host, it):
-                self.tell(host, it, max(near, key=lambda k: self.hosts[k].given))
+                self.tell(host, it, sorted(near, key=lambda k: -self.hosts[k].given))
+
+    def checks(self):
+        """Asks those that were left behind whether they are there as they were."""
+        for host, it in enumerate(self.hosts):
+            if it.is_behind and it.waits_since is None and self.now - it.checks_at > SILENCE:
+                it.checks_at = it.waiting = self.now
+                self.ask(host, "release 0")
 
     def joins(self):
-        """Asks the furthest host for its state, for those that are two epochs behind and say something."""
-        due = [it for it in self.hosts if it.is_behind and not self.is_away(it) and self.now - it.joins_at > SILENCE]
+        """Asks the furthest host for its state, for those that were left behind and are there, or wait."""
+        furthest = max(range(self.members), key=lambda k: (not self.hosts[k].is_behind, self.hosts[k].given))
+        epoch = self.hosts[furthest].epoch
+        due = [it for host, it in enumerate(self.hosts) if it.is_behind and self.joins_by(it, host, epoch)]
+        due = [it for it in due if self.now - it.joins_at > SILENCE]
         if due:
-            furthest = max(range(self.members), key=lambda k: self.hosts[k].given)
             self.ask(furthest, "state")
         for it in due:
             it.joins_at = self.now
@@ -372,11 +450,21 @@ class HostSupervisor:
         it.lags = has_nothing or it.lags and self.furthest - it.given > IN_FLIGHT
         return it.lags
 
-    def tell(self, host, it, teller):
-        """Once for each place that it lacks first, and again where that did nothing."""
-        if (it.epoch, it.lacks) != it.told or self.now - it.told_at > SILENCE:
-            it.told, it.told_at = (it.epoch, it.lacks), self.now
-            self.ask_in(it.epoch, teller, f"tell {host} {it.lacks}")
+    def tell(self, host, it, near):
+        """Once for each place that it lacks first, and again where that did nothing, by another one: who joined the
+        next epoch may have no node of this one. Where all are in the next epoch, and nothing helps, it joins."""
+        if (it.epoch, it.lacks) != it.told:
+            it.vain = 0
+        elif self.now - it.told_at > SILENCE:
+            it.vain += 1
+        else:
+            return
+        if it.vain >= MOST_VAIN * len(near) and all(self.hosts[k].epoch > it.epoch for k in near):
+            it.is_behind = True
+            self.show(f"host {host} can't catch up")
+            return
+        it.told, it.told_at = (it.epoch, it.lacks), self.now
+        self.ask_in(it.epoch, near[it.vain % len(near)], f"tell {host} {it.lacks}")
 
     def forgets(self):
         """Outputs that all have given, and epochs that all have passed."""
@@ -399,6 +487,7 @@ class HostSupervisor:
         self.offers()
         self.releases()
         self.tells()
+        self.checks()
         self.joins()
         self.forgets()
         self.write_out()
@@ -412,8 +501,16 @@ class HostSupervisor:
             self.take(line)
 
     def begin(self):
-        """Waits until each host has said that it is there."""
+        """Waits until each host has said that it is there, or a majority has and the others are away."""
         while not all(it.is_there for it in self.hosts):
+            absent = [host for host, it in enumerate(self.hosts) if not it.is_there]
+            if 2 * len(absent) < self.members and all(self.is_away(self.hosts[host]) for host in absent):
+                break
+            for host in absent:
+                if self.now - self.hosts[host].waiting > SILENCE:
+                    self.hosts[host].waiting = self.now
+                    self.ask(host, "release 0")
+            self.write_out()
             self.reads()
         self.heard = self.now
 

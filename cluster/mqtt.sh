@@ -28,6 +28,7 @@ node)
 supervise)
     [ $# = 3 ] || [ $# = 4 ] || refuses 'supervise takes FOLDER PLAN [CUTS]; --help says more'
     folder=$2
+    wants_cuts "${4:-0}"
     look_at "$3"
     ;;
 *) refuses "'$role' is none of users, broker, node and supervise" ;;

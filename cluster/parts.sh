@@ -21,6 +21,21 @@ refuses() {
     exit 2
 }
 
+# is_number WORD FIRST LAST: whether it is a whole number, not below the first one and not above the last one.
+is_number() {
+    [[ $1 =~ ^[0-9]{1,9}$ ]] && [ "$((10#$1))" -ge "$2" ] && [ "$((10#$1))" -le "$3" ]
+}
+
+# wants_cuts CUTS
+wants_cuts() {
+    is_number "$1" 0 999999999 || refuses "CUTS is '$1', no number up to 999999999"
+}
+
+# wants_places PLACES
+wants_places() {
+    is_number "$1" 1 999000 || refuses "--places is '$1', not 1 to 999000"
+}
+
 # look_at PLAN: has `upsched check` look at it. What it warns of goes to standard error, and a fault ends the script.
 look_at() {
     local told

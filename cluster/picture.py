@@ -14,6 +14,9 @@ import sys
 import tempfile
 import time
 
+sys.dont_write_bytecode = True
+from carry import words_in
+
 HERE = os.path.dirname(os.path.abspath(__file__))
 ADDRESSES = [f"127.0.0.1:{port}" for port in (24731, 24732, 24733)]
 PORT = 24734
@@ -138,13 +141,14 @@ class Picture:
 
 
 def main():
+    (svg,) = words_in(__doc__, 1)
     with tempfile.TemporaryDirectory() as room:
         recorder = Recorder(room)
         try:
             recorder.run()
         finally:
             recorder.end()
-    with open(sys.argv[1], "w") as file:
+    with open(svg, "w") as file:
         file.write(Picture(recorder.events).draw())
 
 

@@ -11,6 +11,9 @@ set -euo pipefail
 here=$(cd -- "$(dirname -- "${BASH_SOURCE[0]}")" && pwd)
 . "$here/parts.sh"
 wants_usage "$@"
+[[ $1 != -* ]] || refuses "$1 is no option"
+[ $# -le 2 ] || refuses "'$3' is one word too many"
+wants_cuts "${2:-0}"
 look_at "$1"
 pipes=$(mktemp -d)
 trap 'end_parts; rm -rf "$pipes"' EXIT

@@ -23,7 +23,21 @@ import sys
 import time
 import tomllib
 
-SILENCE = float(os.environ.get("SILENCE", "1"))
+
+def silence():
+    """How many seconds of silence are too many."""
+    word = os.environ.get("SILENCE", "1")
+    try:
+        seconds = float(word)
+    except ValueError:
+        seconds = 0
+    if not 0 < seconds < float("inf"):
+        print(f"supervisor: SILENCE is '{word}', no number of seconds", file=sys.stderr)
+        sys.exit(2)
+    return seconds
+
+
+SILENCE = silence()
 
 
 class PlanFault(Exception):
@@ -31,7 +45,15 @@ class PlanFault(Exception):
 
 
 def number(value, size):
+    if type(value) is not int or not 0 <= value < 256**size:
+        raise PlanFault(f"{value!r} is no whole number below {256**size}")
     return value.to_bytes(size, "big")
+
+
+def pair(value):
+    if not isinstance(value, list) or len(value) != 2:
+        raise PlanFault(f"{value!r} is no pair of back-offs")
+    return b"".join(number(it, 1) for it in value)
 
 
 def flow_bytes(command):
@@ -52,7 +74,7 @@ def flow_bytes(command):
 def cut_bytes(command):
     ch, times = number(command["ch"], 1), number(command["not_before"], 8) + number(command["ack"], 8)
     kept, own = number(command.get("keep", 0), 2), [255, 255]
-    settings = kept + bytes(command.get("ranging", own) + command.get("data", own))
+    settings = kept + pair(command.get("ranging", own)) + pair(command.get("data", own))
     if settings == b"\0\0\xff\xff\xff\xff":
         return b"\5" + ch + number(command["len"], 2) + times
     return b"\x09" + ch + number(command["len"], 2) + times + settings
@@ -62,7 +84,7 @@ def bytes_of(command):
     """A plan's command as docs/formats.md has its bytes."""
     kind, ch = command["kind"], number(command.get("ch", 0), 1)
     if kind == "channel":
-        backoffs = bytes(command["ranging"] + command["data"])
+        backoffs = pair(command["ranging"]) + pair(command["data"])
         first = bytes([6 if command.get("phy") == "advanced" else 1])
         first += ch + number(command["ucd"], 1) + number(command["short_max"], 2)
         return first + backoffs + number(command["base"], 8)
@@ -76,7 +98,7 @@ def bytes_of(command):
         return cut_bytes(command)
     if kind == "change":
         phy = number(1 if command["phy"] == "advanced" else 0, 1)
-        backoffs = bytes(command["ranging"] + command["data"])
+        backoffs = pair(command["ranging"]) + pair(command["data"])
         return b"\x0a" + ch + number(command["ucd"], 1) + phy + number(command["short_max"], 2) + backoffs
     if kind == "noop":
         return b"\0"
@@ -88,12 +110,14 @@ def values_of(plan, cuts):
     with open(plan, "rb") as file:
         commands = tomllib.load(file).get("command", [])
     values, last = [], None
+    if not isinstance(commands, list) or not all(isinstance(it, dict) for it in commands):
+        raise PlanFault("command is no array of tables")
     for i, command in enumerate(commands, 1):
         try:
             values.append(bytes_of(command))
         except KeyError as lacks:
             raise PlanFault(f"command {i} lacks {lacks}") from None
-        except (PlanFault, OverflowError, TypeError, ValueError, AttributeError) as fault:
+        except (PlanFault, TypeError, ValueError) as fault:
             raise PlanFault(f"command {i}: {fault}") from None
         if command["kind"] == "cut":
             last = values[-1]
@@ -213,8 +237,8 @@ def read_plan(plan, cuts):
 
 
 def words_in(usage, count, seconds):
-    """The words of a supervisor: so many whole numbers, a plan, and perhaps how many cuts and seconds. With --help, and
-    with others, the program prints its usage and ends."""
+    """The words of a supervisor: so many whole numbers, first that of the members, a plan, and perhaps how many cuts
+    and seconds. With --help, and with others, the program prints its usage and ends."""
     words = sys.argv[1:]
     if words in (["-h"], ["--help"]):
         print(usage.strip())
@@ -223,7 +247,7 @@ def words_in(usage, count, seconds):
         numbers, plan, more = [int(it) for it in words[:count]], words[count], words[count + 1 :]
         cuts = int(more[0]) if more else 0
         seconds = float(more[1]) if len(more) > 1 else seconds
-        if len(more) > 2 or min(numbers) < 1 or cuts < 0 or not seconds > 0:
+        if len(more) > 2 or numbers[0] not in (3, 5) or min(numbers) < 1 or cuts < 0 or not seconds > 0:
             raise ValueError
     except (ValueError, IndexError):
         print(usage.strip(), file=sys.stderr)

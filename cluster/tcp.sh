@@ -16,20 +16,17 @@
 set -euo pipefail
 here=$(cd -- "$(dirname -- "${BASH_SOURCE[0]}")" && pwd)
 . "$here/parts.sh"
+. "$here/tcp_parts.sh"
 wants_usage "$@"
 role=$1 words=()
-
-# is_address ADDRESS: whether it ends with a port.
-is_address() {
-    [[ $1 =~ ^..*:[0-9]+$ ]] && [ $((10#${1##*:})) -le 65535 ]
-}
 
 case $role in
 supervise)
     [ $# -gt 4 ] || refuses 'supervise takes PORT PLAN CUTS ADDRESS..; --help says more'
     port=$2 plan=$(absolute "$3") cuts=$4
+    is_number "$port" 1 65535 || refuses "PORT is '$port', not 1 to 65535"
+    wants_cuts "$cuts"
     shift 4
-    look_at "$plan"
     ;;
 node)
     [ $# -gt 3 ] || refuses 'node takes K FILE [--new] [--journal JOURNAL] ADDRESS..; --help says more'
@@ -47,35 +44,12 @@ node)
         esac
         shift
     done
-    is_address "${SUPERVISOR-}" || refuses "SUPERVISOR isn't HOST:PORT: '${SUPERVISOR-}'"
+    wants_supervisor
     ;;
 *) refuses "'$role' is neither node nor supervise" ;;
 esac
-for address in "$@"; do is_address "$address" || refuses "an address isn't HOST:PORT: '$address'"; done
-members=$# addresses=("$@")
-[ $members = 3 ] || [ $members = 5 ] || refuses "there are $members addresses, not three or five"
-[ "$role" = supervise ] || [[ $me =~ ^[0-4]$ && $me -lt $members ]] || refuses "there is no node $me of $members"
-made=$(mktemp -d)
-trap 'end_parts; rm -rf "$made"' EXIT
-trap 'exit 1' HUP INT TERM
-mkfifo "$made/in"
-cd -- "$here"
-
-# listen PORT: puts whole lines from any connection into the pipe. A port that is still in use is tried again.
-listen() {
-    while true; do
-        socat -u "TCP-LISTEN:$1,fork,reuseaddr" SYSTEM:./whole_lines.py || sleep 0.2
-    done
-}
-
-# reach NAME ADDRESS: what comes through the pipe of that name goes to the address; 6:18 is how long TCP waits, in
-# milliseconds.
-reach() {
-    while true; do
-        socat -u - "TCP:$2,connect-timeout=2,setsockopt-int=6:18:3000" <>"$made/$1" || true
-        timeout 0.2 cat <>"$made/$1" >/dev/null || true
-    done 2>/dev/null
-}
+takes_addresses node "$@"
+[ "$role" = node ] || look_at "$plan"
 
 # node K WORD..
 node() {
@@ -87,20 +61,13 @@ supervise() {
     python3 supervisor.py "$@" <>"$made/in" | while read -r k line; do echo "$line" 3<>"$made/$k" >&3; done
 }
 
-# reaches NAME ADDRESS
-reaches() {
-    mkfifo "$made/$1"
-    part bash -c 'reach "$@"' bash "$@"
-}
-
-export made INTO=$made/in
-export -f listen reach node supervise
-for ((k = 0; k < members; k++)); do reaches "$k" "${addresses[k]}"; done
+export -f node supervise
 if [ "$role" = supervise ]; then
-    part bash -c 'listen "$1"' bash "$port"
+    look_at "$plan"
+    meets "$port"
     part bash -o pipefail -c 'supervise "$@"' bash "$members" "$plan" "$cuts"
 else
-    part bash -c 'listen "$1"' bash "${addresses[me]##*:}"
+    meets "${addresses[me]##*:}"
     reaches replies "$SUPERVISOR"
     part bash -o pipefail -c 'node "$@"' bash "$me" --members "$members" "${words[@]}"
 fi
