@@ -22,7 +22,7 @@ _upsched() {
         live) options="--turns --verbose -h --help" ;;
         scheduler) options="--json -h --help" ;;
         node) options="--members --store --new --journal --journal-sync -h --help" ;;
-        host) options="--members --places -h --help" ;;
+        host) options="--members --places --store --new --join --journal --journal-sync -h --help" ;;
         audit) options="--members --counts -h --help" ;;
     esac
     if [[ $now == -* ]]; then
