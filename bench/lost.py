@@ -498,7 +498,7 @@ def tableless(bases, room):
         for text in ("PRAGMA journal_mode = WAL", "CREATE TABLE note (text)", "DROP TABLE note", "VACUUM"):
             database.execute(text)
     blank, told = read(path), "database missing: PATH has no tables"
-    for moment in (moment for kept in bases for moment in kept):
+    for moment in (moment for kept in bases for moment in kept[::-10]):
         faults = ["database missing: PATH: has no tables"]
         if any(frames(moment.log)):
             states = [told, r"log missing: PATH-wal .*", "foreign.*"]

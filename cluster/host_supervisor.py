@@ -172,6 +172,7 @@ class HostSupervisor:
     def take_waiting(self, it, host):
         if it.waits_since is None:
             it.is_there, it.is_behind, it.waits_since, it.joins_from = True, True, self.now, None
+            it.joins_at = 0.0
             self.show(f"host {host} waits for a state")
 
     def take_restarted(self, it, host, epoch):
@@ -425,9 +426,10 @@ class HostSupervisor:
                 self.tell(host, it, sorted(near, key=lambda k: -self.hosts[k].given))
 
     def checks(self):
-        """Asks those that were left behind whether they are there as they were."""
+        """Asks those that were left behind whether they are there as they were. Who waits is asked too: so what carries
+        lines to it has found it before a state goes there."""
         for host, it in enumerate(self.hosts):
-            if it.is_behind and it.waits_since is None and self.now - it.checks_at > SILENCE:
+            if it.is_behind and self.now - it.checks_at > SILENCE:
                 it.checks_at = it.waiting = self.now
                 self.ask(host, "release 0")
 

@@ -41,7 +41,7 @@ fn tried(alloc: Global, files: Files<Fused>, way: Way) -> Result<(bool, Files<Fu
 }
 
 /// What an open in this way leaves that stops after so many calls, and whether it went through.
-pub fn stop_at(
+fn stop_at(
     alloc: Global,
     bodies: &Bodies,
     way: Way,

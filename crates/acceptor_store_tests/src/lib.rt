@@ -12,8 +12,6 @@ mod files;
 #[cfg(test)]
 mod kinds;
 #[cfg(test)]
-mod makings;
-#[cfg(test)]
 mod owners;
 #[cfg(test)]
 mod slip;
