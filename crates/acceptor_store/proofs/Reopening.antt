@@ -1,10 +1,10 @@
 -- What is known of a connection that was opened anew.
-use Rattle.std.proofs.Common.{◌≡◌, ◌⊎◌, inl, inr, ℕ, Bool, true, false, ◌==◌, if◌then◌else◌, List, [], ◌∷◌, length, map}
+use Rattle.std.proofs.Common.{◌≡◌, ◌⊎◌, inl, inr, ℕ, Bool, true, ◌==◌, if◌then◌else◌, List, [], ◌∷◌, length, map}
 use Rattle.std.proofs.Common.{Some, None, Option, Ok, Err, Result, IfOk, IfSome, IsSomeAnd, OnOk, IsTrue, refl, sym, ap, subst}
 use Rattle.std.proofs.Common.{subst₂, ◌∙◌, arith}
 use Rattle.acceptor_store.proofs.Words.{∥∥₁_map, ∥∥₁_elim, ∥∥₁_prop, Cast, number_of, Content, AreRowsFrom, AreValues}
-use Rattle.acceptor_store.proofs.Words.{greatest, Holds, HoldsEither, AddsNothing, Files, FileStore, over_files}
-use Rattle.acceptor_store.proofs.Words.{file_state, image_of, IsOpened, Finds, survives_then, opens_again, Ghosts}
+use Rattle.acceptor_store.proofs.Words.{greatest, Holds, HoldsEither, AddsNothing}
+use Rattle.acceptor_store.proofs.Words.{survives_then, Ghosts}
 use Rattle.acceptor_store.proofs.Words.{Trees, Database, IsDatabase, State, HasCleanDisk, Survives, Opens, IsUnchanged}
 use Rattle.acceptor_store.proofs.Words.{IsOwnedAt, IsUnownedVersion, ServesKnown, StaysKnown, Fourth}
 use Rattle.acceptor_store.proofs.Words.{Version, First, Second, Third, AreByRowid, AreShaped, Rereads, Held, state}
@@ -13,13 +13,12 @@ use Rattle.acceptor_store.proofs.Words.{blank_schema, AreTablesOf, HasLearned, K
 use Rattle.acceptor_store.proofs.Words.{IsLearned, vote_row, learned_row, AreTablesFor, schema_for, ServesFor, ServesAs}
 use Rattle.acceptor_store.proofs.Words.{StillServes, DoesNotServe, one_content, AreNumbersOf, Linked, MayFind}
 use Rattle.acceptor_store.proofs.Words.{MayFindIn, IsHonest, is_clean_in, held_of, IsLinked, IsServing, Stands}
-use Rattle.acceptor_store.proofs.Words.{IsTested, CannotBeRead, Tells, Leaves, Reopens, Examines, Had, IsIn, IsFoundIn}
+use Rattle.acceptor_store.proofs.Words.{IsTested, CannotBeRead, Tells, Leaves, Reopens, Examines, Had}
 use Rattle.acceptor_store.proofs.Words.{SeesForeign, HasNumbers, StaysAs, no_doubt, clean_of}
 use Rattle.acceptor_store.proofs.Words.{IsCount, OwnedAt, ShowsCount, count_bytes, fact_shown, facts_of}
 use Rattle.acceptor_store_parts.proofs.Callers.{count_bytes_once}
 use Rattle.sqlite.specs.Order.{Row}
 use Rattle.sqlite_schema.specs.declared.schema.Schema.{Schema}
-use Rattle.sqlite_disk.specs.declared.Disk as disk
 use Rattle.sqlite_schema.specs.Names.{same_name}
 use Rattle.acceptor_store.specs.Linked.{FindsContent as Found}
 use Rattle.acceptor_store.proofs.Calls.{held_there}
@@ -311,28 +310,3 @@ module _ {S : Type 0} (g : Ghosts S) (settled : (s : S) (db : Trees) → IsTrue 
         now.1,
         subst₂ (λ o x. Holds (MayFind g o x) now.0) (sym own) (sym held) (∣ found_it g settled stays owner new now.0 now.2.2.serves ∣₁, found_is g settled stays owner new now.0 now.2.2.serves),
       )
-
--- what an open of files had is in them
-pub is_in : {D : Type 0} {g : disk.Ghosts D} (files : Files D) (conn : Held (FileStore D g)) (c : Content) → IsOpened conn → Finds files conn → Had over_files conn c → IsIn g files c
-is_in {g = g} files conn c opened finds had db holds =
-    let is = finds.holds db holds in
-    elim had [
-      | inl blank ↦
-          let trees : (file_state conn).now.trees ≡ db = ap (λ (d : Database). d.trees) opened.0.clean ∙ is in
-          let sure = (opened.1 opened.0.is_open).0 in
-          inr (subst₂ (λ s t. IsDatabase (record { schema = s; trees = t })) blank.0 trees sure, blank.1)
-      | inr tables ↦ inl (tables.0, subst (λ t. AreTablesOf tables.0 t c) is tables.1.1)
-    ]
-
--- and where the files are what a store might have left, it is in one of the databases that the store allows
-found_also : {D : Type 0} {g : disk.Ghosts D} (files : Files D) (c : Content) → IsIn g files c → IsFoundIn g files c
-found_also {g = g} files c is = (is, λ it might. ∥∥₁_map (opens_again it might.numbered might.sound (image_of g files) might.left) (λ db. (db.0, db.1, is db.0 db.2)))
-
-pub found_in : {D : Type 0} {g : disk.Ghosts D} (files : Files D) (conn : Held (FileStore D g)) {E : Type 0} (r : Result (Linked (FileStore D g)) E) → (HasCleanDisk (file_state conn) → IsOpened conn) → (HasCleanDisk (file_state conn) → Finds files conn)
-    → IfOk r (λ x. IsHonest over_files x → (c : Content) × Had over_files conn c × Holds (MayFind over_files x.owner x.held) c) → IfOk r (λ x. IsHonest over_files x → HasCleanDisk (file_state conn))
-    → IfOk r (λ x. IsHonest over_files x → (c : Content) × Holds (MayFind over_files x.owner x.held) c × IsFoundIn g files c)
-found_in files conn (Err e) opened finds holds clean = tt
-found_in {g = g} files conn (Ok x) opened finds holds clean = λ honest.
-    let now = holds honest in
-    let sure = clean honest in
-    (now.0, now.2, found_also {g = g} files now.0 (is_in {g = g} files conn now.0 (opened sure) (finds sure) now.1))

@@ -14,7 +14,7 @@ pub use Rattle.acceptor_store.specs.Linked.{IsKnownCount, IsUnownedVersion, Serv
 pub use Rattle.acceptor_store.specs.Owning.{AreReadAs, CountsFor, HadFor, HadRead, IsCountRead, IsToCount}
 pub use Rattle.acceptor_store.specs.Owning.{IsToMakeFor, NamesAt, NamesNone, ServesRead, ShowsAt, version_read}
 pub use Rattle.acceptor_store.specs.Linked.{AreNumbersOf, CannotBeRead, Examines, FailsAnew, FindsContent, Had, HadIn}
-pub use Rattle.acceptor_store.specs.Linked.{HasFurther, HasNumbers, HasStopped, IsFoundIn, IsHonest, IsIn, IsLeftWhole}
+pub use Rattle.acceptor_store.specs.Linked.{HasFurther, HasNumbers, HasStopped, IsHonest, IsLeftWhole}
 pub use Rattle.acceptor_store.specs.Linked.{IsLinked, IsRefused, IsServing, IsTested, IsToMake, Knows, Leaves, Linked}
 pub use Rattle.acceptor_store.specs.Linked.{MakesReady, MayFind, MayFindIn, Reopens, SeesForeign, ServesNone, Stands}
 pub use Rattle.acceptor_store.specs.Linked.{StaysAs, Tells, greatest_beside, held_of, is_clean_in, is_honest}
@@ -55,17 +55,13 @@ pub use Rattle.ballots.specs.Ballots.{number_of}
 pub use Rattle.ballots.specs.Rows.{at, put, rows_from}
 pub use Rattle.ballots.specs.declared.letters.Cast.{Cast}
 pub use Rattle.sqlite.proofs.StateLemmas.{survives_then, survives_weaker}
-pub use Rattle.sqlite.proofs.Theorems.{opens_again}
 pub use Rattle.sqlite.specs.Effect.{Database, IsDatabase}
-pub use Rattle.sqlite.specs.Files.{Finds, IsOpened, file_state, image_of, over_files}
 pub use Rattle.sqlite.specs.Held.{Held, state}
 pub use Rattle.sqlite.specs.State.{HasCleanDisk, IsUnchanged, Opens, State, Survives}
 pub use Rattle.sqlite.specs.Store.{Ghosts}
 pub use Rattle.sqlite.specs.Tree.{Trees}
 pub use Rattle.sqlite.specs.declared.error.Error.{Error}
 pub use Rattle.sqlite.specs.declared.error.Error.TheVariants.{SqliteFailure}
-pub use Rattle.sqlite_disk.specs.declared.Files.{Files}
-pub use Rattle.sqlite_store.specs.declared.store.FileStore.{FileStore}
 pub use Rattle.sqlite_trees.proofs.Doubt.{clean_of, no_doubt}
 pub use Rattle.sqlite_trees.specs.View.{IsClean}
 pub use Rattle.std.proofs.Math.Logic.{∥∥₁_elim, ∥∥₁_map, ∥∥₁_prop}

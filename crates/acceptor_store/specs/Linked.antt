@@ -1,22 +1,15 @@
 -- Records over a connection.
-use Rattle.std.specs.Prelude.{◌≡◌, ◌≢◌, ◌==◌, ℕ, max, map, List, [], ◌∷◌, if◌then◌else◌, Bool, true, false, ◌&&◌}
+use Rattle.std.specs.Prelude.{◌≡◌, ◌≢◌, ◌==◌, ℕ, max, map, List, [], ◌∷◌, if◌then◌else◌, Bool, true, false}
 use Rattle.std.specs.Prelude.{Option, Some, None, ◌⊎◌, IsSome, IsTrue, refl}
 use Rattle.std.specs.Coded.{Coded, code_by, coded×, coded_bool, coded_ℕ, coded_option}
 use Rattle.ballots.specs.Ballots.{number_of}
 use Rattle.ballots.specs.declared.letters.Cast.{Cast}
 use Rattle.sqlite_disk.specs.Disk.{MoreFaults}
-use Rattle.sqlite_disk.specs.declared.Disk as disk
-use Rattle.sqlite_disk.specs.declared.Files.{Files}
-use Rattle.sqlite.specs.Files.{HoldsDatabase, image_of}
 use Rattle.sqlite.specs.Store.{Ghosts}
 use Rattle.sqlite.specs.Tree.{Trees}
 use Rattle.sqlite.specs.Schema.{Schema}
 use Rattle.sqlite.specs.State.{State, HasCleanDisk}
-use Rattle.sqlite.specs.Effect.{IsDatabase}
-use Rattle.sqlite.specs.Held.{AreDatabases, Held, held_code, state}
-use Rattle.sqlite_store.specs.declared.store.FileStore.{FileStore}
-use Rattle.sqlite_store.specs.FileStore.{recovers, view, state as store_state}
-use Rattle.sqlite_wal.specs.Recovery.{Image}
+use Rattle.sqlite.specs.Held.{Held, held_code, state}
 use Rattle.acceptor.specs.Content.{Content, no_content, promised}
 use Rattle.acceptor.specs.Found.{Holds, AddsNothing}
 use Rattle.ballots.specs.declared.members.Members.{Members}
@@ -68,8 +61,8 @@ owner_code = code_by (ℕ × Bool) (coded× coded_ℕ coded_bool) (λ o. (o.node
 
 abbrev pub numbers_code : Coded Numbers
 numbers_code =
-    code_by (Option ℕ × (Option ℕ × Option ℕ)) (coded× (coded_option coded_ℕ) (coded× (coded_option coded_ℕ) (coded_option coded_ℕ))) (λ n. (n.tried, (n.promised, n.count)))
-    (λ p. record { tried = p.0; promised = p.1.0; count = p.1.1 }) (λ _. refl)
+    code_by (Option ℕ × (Option ℕ × Option ℕ)) (coded× (coded_option coded_ℕ) (coded× (coded_option coded_ℕ) (coded_option coded_ℕ)))
+    (λ n. (n.tried, (n.promised, n.count))) (λ p. record { tried = p.0; promised = p.1.0; count = p.1.1 }) (λ _. refl)
 
 -- they are stored as the tuple of their fields
 abbrev pub linked_code : {S : Type 0} → Coded S → Coded (Linked S)
@@ -159,7 +152,8 @@ ServesNone owner s = (c : Content) → ServesFor owner s c → ⊥
 
 -- what tests of the tables told
 abbrev pub Tells : {S : Type 0} → Ghosts S → Option Owner → Held S → Held S → Numbers → Type 0
-Tells g owner old new numbers = ((state g old).now.schema ≡ schema_for owner) × ((c : Content) → ServesFor owner (state g old) c → IsTested g owner old new numbers c)
+Tells g owner old new numbers =
+    ((state g old).now.schema ≡ schema_for owner) × ((c : Content) → ServesFor owner (state g old) c → IsTested g owner old new numbers c)
 
 -- its tables are those of this owner's records, and serve no content
 abbrev pub CannotBeRead : Option Owner → State → Type 0
@@ -239,30 +233,9 @@ IsToMake g conn = ((state g conn).now.schema ≡ blank_schema) ⊎ ((c : Content
 -- why an open is Refused that gives this store back: an open transaction, what stands beside the tables, tables that
 -- were to be made, or a disk that failed
 abbrev pub IsRefused : {S : Type 0} → Ghosts S → Held S → S → Type 0
-IsRefused g conn store = IsTrue (state g conn).in_transaction ⊎ (HasFurther (state g conn).now.schema ⊎ (IsToMake g conn ⊎ ((version : Version) × FailsAnew g version conn store)))
+IsRefused g conn store =
+    IsTrue (state g conn).in_transaction ⊎ (HasFurther (state g conn).now.schema ⊎ (IsToMake g conn ⊎ ((version : Version) × FailsAnew g version conn store)))
 
 -- it serves what the older one had, which has these numbers
 abbrev pub MakesReady : {S : Type 0} → Ghosts S → Held S → Held S → Numbers → Type 0
 MakesReady g old new numbers = (c : Content) × Had g old c × ServesKnown None numbers.count (state g new) c × AreNumbersOf numbers c
-
--- the trees are those of the content in one of the versions, or of a database without tables, and the content is none
-abbrev pub IsKeptIn : Trees → Content → Type 0
-IsKeptIn db c = ((version : Version) × AreTablesOf version db c) ⊎ (IsDatabase (record { schema = blank_schema; trees = db }) × (c ≡ no_content))
-
--- a database that the files hold has the content, or it has no tables and the content is none
-abbrev pub IsIn : {D : Type 0} → disk.Ghosts D → Files D → Content → Type 0
-IsIn g files c = (db : Trees) → HoldsDatabase (image_of g files) db → IsKeptIn db c
-
--- what a crash may leave of a store that a connection gave back
-pub record MightLeave {D : Type 0} {g : disk.Ghosts D} (it : FileStore D g) (image : Image) : Type 0 where
-  pub numbered : IsTrue (view it).is_numbered
-  pub sound : AreDatabases (recovers it)
-  pub left : (store_state it).may_leave image
-
--- the content is in one of the databases that the store might leave
-abbrev pub IsLeftBy : {D : Type 0} {g : disk.Ghosts D} → FileStore D g → Content → Type 0
-IsLeftBy it c = ∥ ((db : Trees) × recovers it db × IsKeptIn db c) ∥₁
-
--- the content is in the files, and where a store might have left them, it is one of those that this store might leave
-abbrev pub IsFoundIn : {D : Type 0} → (g : disk.Ghosts D) → Files D → Content → Type 0
-IsFoundIn {D} g files c = IsIn g files c × ((it : FileStore D g) → MightLeave it (image_of g files) → IsLeftBy it c)

@@ -129,7 +129,8 @@ HadRead g owner count conn c = ((state g conn).now.schema ≡ schema_of Third) �
 abbrev pub ExaminesFor : {S : Type 0} → Ghosts S → Owner → Held S → Held S → Numbers → Type 0
 ExaminesFor g owner old new numbers =
     IsReread Third (state g old)
-    → (c : Content) × AreReadAs owner numbers.count (state g old).now.trees c × IsOfNode c × ServesRead owner numbers.count (state g new) c × AreNumbersOf numbers c
+    → (c : Content) × AreReadAs owner numbers.count (state g old).now.trees c × IsOfNode c
+    × ServesRead owner numbers.count (state g new) c × AreNumbersOf numbers c
 
 -- it serves for this owner what the older one had, in its version, which has these numbers
 abbrev pub FindsFor : {S : Type 0} → Ghosts S → Owner → Held S → Held S → Numbers → Type 0
@@ -141,7 +142,8 @@ CountsFor g owner old new numbers = (c : Content) × HadFor g owner old c × Ser
 
 -- the same of a database that may be new
 abbrev pub PreparesFor : {S : Type 0} → Ghosts S → Owner → Bool → Held S → Held S → Numbers → Type 0
-PreparesFor g owner is_new old new numbers = (c : Content) × HadAs g owner is_new old c × ServesKnown (Some owner) numbers.count (state g new) c × AreNumbersOf numbers c
+PreparesFor g owner is_new old new numbers =
+    (c : Content) × HadAs g owner is_new old c × ServesKnown (Some owner) numbers.count (state g new) c × AreNumbersOf numbers c
 
 -- what each fault says of a database that is to be adopted
 abbrev pub IsDueBefore : {S : Type 0} → Ghosts S → Owner → Held S → OwnerFault → Type 0
@@ -149,7 +151,8 @@ IsDueBefore g owner conn Blank = (state g conn).now.schema ≡ blank_schema
 IsDueBefore g owner conn Unowned = ⊥
 IsDueBefore g owner conn (OtherNode other) = IsDue g owner false conn (OtherNode other)
 IsDueBefore g owner conn (OtherMembers other) = IsDue g owner false conn (OtherMembers other)
-IsDueBefore g owner conn (Open Foreign) = IsForeignOwned (state g conn).now.schema (state g conn).committed.trees ⊎ ((HasFacts (state g conn).now.schema → ⊥) × SeesForeign g conn)
+IsDueBefore g owner conn (Open Foreign) =
+    IsForeignOwned (state g conn).now.schema (state g conn).committed.trees ⊎ ((HasFacts (state g conn).now.schema → ⊥) × SeesForeign g conn)
 IsDueBefore g owner conn (Open Refused) = Unit {0}
 IsDueBefore g owner conn (Open Broken) = Unit {0}
 IsDueBefore g owner conn (Open OutOfMemory) = Unit {0}
@@ -196,4 +199,5 @@ Claims g wanted (Err unread) (Err told) = (told.0 ≡ Open unread.0) × (told.1 
 -- why a database isn't adopted that is Refused, and gives this store back: what an open of it would be Refused for,
 -- without an owner or for this one, or tables without an owner that were to be made into this owner's
 abbrev pub IsRefusedBefore : {S : Type 0} → Ghosts S → Owner → Held S → S → Type 0
-IsRefusedBefore g owner conn store = IsRefused g conn store ⊎ (IsRefusedFor g owner conn store ⊎ ((HasFacts (state g conn).now.schema → ⊥) × ((c : Content) × Had g conn c)))
+IsRefusedBefore g owner conn store =
+    IsRefused g conn store ⊎ (IsRefusedFor g owner conn store ⊎ ((HasFacts (state g conn).now.schema → ⊥) × ((c : Content) × Had g conn c)))

@@ -7,14 +7,13 @@ mod known;
 mod opening;
 mod owned;
 
-ghost use Rattle.std.specs.Prelude.{◌≡◌, ◌≤◌, ◌↔◌, ◌⊎◌, ◌&&◌, true, false, not, if◌then◌else◌, Err, None, Some};
+ghost use Rattle.std.specs.Prelude.{◌≡◌, ◌≤◌, ◌↔◌, ◌⊎◌, true, false, not, if◌then◌else◌, None, Some};
 ghost use Rattle.std.specs.Prelude.{IfOk, IfErr, IfSome, IsErrAnd, IsSome, IsSomeAnd, IsTrue, OnOk};
 ghost use Rattle.acceptor.specs.Calls.{Accounts, KeepsTrust, Writes};
 ghost use Rattle.acceptor.specs.Faults.{BreaksByReopen, CountsFaults, HasRisen, IsHarmless, IsStoreFault};
 ghost use Rattle.acceptor.specs.declared.records.RecordsFault.TheVariants.{OutOfMemory};
 ghost use Rattle.acceptor.specs.Content.{Content, IsSound, promised};
 ghost use Rattle.acceptor.specs.Found.{Holds, HoldsEither, AddsNothing, FindsSame, Keeps};
-ghost use Rattle.sqlite.specs.Files.{over_files};
 ghost use Rattle.sqlite.specs.Tree.{Trees};
 ghost use Rattle.sqlite.specs.State.{HasCleanDisk, Survives};
 ghost use Rattle.sqlite.specs.Held.{AreDatabases, state};
@@ -28,7 +27,7 @@ ghost use Rattle.acceptor_store_parts.specs.Stops.{LeavesOpen, leaves_open};
 ghost use Rattle.acceptor_store.specs.Stopped.{answer_of};
 ghost use Rattle.acceptor_store.specs.Linked.{MayFind, IsHonest, is_clean_in, is_honest, CannotBeRead, IsServing};
 ghost use Rattle.acceptor_store.specs.Linked.{AreNumbersOf, StaysKnown, Tells};
-ghost use Rattle.acceptor_store.specs.Linked.{Had, HasFurther, IsFoundIn, IsLeftWhole, IsRefused, SeesForeign};
+ghost use Rattle.acceptor_store.specs.Linked.{Had, HasFurther, IsLeftWhole, IsRefused, SeesForeign};
 
 use crate::anew::{end_unopened, opened_anew};
 use crate::known::{Numbers, numbers_of, written};
@@ -36,8 +35,7 @@ use acceptor::{Records, RecordsFault};
 use acceptor_store_parts::{Answer, Owner, Put, Stop, version_of_owner};
 use ballots::{Ballot, Cast, Place, Value, Votes};
 pub use owned::OwnerFault;
-use sqlite::{Alter, Connection, Error as SqlError, ErrorCode, FileStore, Files, Row};
-use sqlite_disk::Disk;
+use sqlite::{Alter, Connection, Row};
 use std::alloc::Global;
 use std::marker::Model;
 use std::snapshot::Snapshot;
@@ -327,40 +325,6 @@ impl<S: OpensAnew> SqlRecords<S> {
     }
 }
 
-fn unopened(error: SqlError) -> OpenFault
-    ensures memory { error ≡ SqlError.SqliteFailure ErrorCode.OutOfMemory → result ≡ OpenFault.OutOfMemory }
-    ensures refused { (error ≡ SqlError.SqliteFailure ErrorCode.OutOfMemory → ⊥) → result ≡ OpenFault.Refused }
-{
-    match error {
-        SqlError::SqliteFailure(ErrorCode::OutOfMemory) => OpenFault::OutOfMemory,
-        _ => OpenFault::Refused,
-    }
-}
-
-/// Records over the files, whatever was left of them by a crash. They hold what the files hold: one
-/// of the contents that the store of the records before might have left. Files of which a sync has
-/// failed are Broken.
-pub fn open_files<D: Disk + Drop>(
-    alloc: Global,
-    files: Files<D>,
-) -> Result<SqlRecords<FileStore<D>>, OpenFault>
-    ensures holds { IfOk result (λ r. IsHonest over_files r → (c : Content) × Holds (MayFind over_files r.owner r.held) c × IsFoundIn D.Disk files c) }
-    ensures owner { IfOk result (λ r. r.owner ≡ None) }
-    ensures sure { IfOk result (λ r. IsTrue (is_clean_in over_files r.held) → IsHonest over_files r) }
-    ensures broken { (D.Disk.is_usable files.log && D.Disk.is_usable files.db) ≡ false → result ≡ Err OpenFault.Broken }
-{
-    if !files.may_be_used() {
-        return Err(OpenFault::Broken);
-    }
-    match FileStore::opened_anew(alloc, files) {
-        Ok(conn) => match SqlRecords::open(alloc, conn) {
-            Ok(records) => Ok(records),
-            Err((fault, _store)) => Err(fault),
-        },
-        Err((error, _files)) => Err(unopened(error)),
-    }
-}
-
 impl<S: OpensAnew> Records for SqlRecords<S> {
     ghost may_find = { λ r. MayFind S.Store r.owner r.held };
 
@@ -435,7 +399,7 @@ impl<S: OpensAnew> Records for SqlRecords<S> {
     }
 
     /// Where it couldn't open the store, there is no connection any more, and each later reopen is Broken: open the files
-    /// anew by `open_files`, or by `open_as` for their owner. Where it opened the store and couldn't read the
+    /// anew by `open`, or by `open_as` for their owner. Where it opened the store and couldn't read the
     /// tables, the connection is kept for the next reopen.
     fn reopen(&mut self) -> Result<(), RecordsFault>
         ensures ok { IsHonest S.Store self.new → OnOk result ((a b : Content) → HoldsEither (MayFind S.Store self.old.owner self.old.held) a b

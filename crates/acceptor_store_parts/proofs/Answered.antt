@@ -4,7 +4,7 @@ use Rattle.acceptor_store_parts.proofs.Words.{IfOk-weaker, Cast, Content, Error,
 use Rattle.acceptor_store_parts.proofs.Words.{Version, First, Second, Third, Fourth, Owner, Asked, VoteAt, VotesFrom, LearnedAt}
 use Rattle.acceptor_store_parts.proofs.Words.{LearnedFrom, shown_of, all_votes_query, all_learned_query, vote_shown}
 use Rattle.acceptor_store_parts.proofs.Words.{learned_row, learned_shown, KeepsLearned, HasLearned, Serves, ServesFor}
-use Rattle.acceptor_store_parts.proofs.Words.{ServesAs}
+use Rattle.acceptor_store_parts.proofs.Words.{AreRowsFrom, schema_of, vote_row}
 use Rattle.sqlite.specs.Tree.{Trees}
 use Rattle.sqlite.specs.State.{Shown}
 use Rattle.acceptor_store_parts.specs.Asked.{text_of}
@@ -46,10 +46,12 @@ pub asked_found : (old new : State) (rows : List Row) (asked : Asked) (q : ℕ) 
 asked_found old new rows asked q h c was = found was.0 old new c q was.1 rows asked h
 
 module _ (old new : State) {X : Type 0} (r : Result X Error) (items : X → List Row) where
-  pub all_votes_found : IfOk r (λ x. Shown all_votes_query [] old new (items x)) → IfOk r (λ x. (version : Version) (c : Content) → ServesAs version old c → items x ≡ map vote_shown c.votes)
-  all_votes_found = IfOk-weaker r _ _ (λ x h version c was. shown_all cast_in vote_shown 1 three_columns c.votes (rising 1 c.votes was.tables.sound.0) (overlay old.now.trees []) was.tables.votes_are (λ v. refl) (items x)
-      ((reads (all_votes_query_is version) _ old new was.schema (items x) h).answer Null))
+  pub all_votes_found : IfOk r (λ x. Shown all_votes_query [] old new (items x))
+      → IfOk r (λ x. (version : Version) (votes : List (ℕ × Cast)) → old.now.schema ≡ schema_of version → AreRowsFrom 1 votes → old.now.trees 1 ≡ map vote_row votes → items x ≡ map vote_shown votes)
+  all_votes_found = IfOk-weaker r _ _ (λ x h version votes schema sound are. shown_all cast_in vote_shown 1 three_columns votes (rising 1 votes sound) (overlay old.now.trees []) are (λ v. refl) (items x)
+      ((reads (all_votes_query_is version) _ old new schema (items x) h).answer Null))
 
-  pub all_learned_found : IfOk r (λ x. Shown all_learned_query [] old new (items x)) → IfOk r (λ x. (version : Version) → KeepsLearned version → (c : Content) → ServesAs version old c → items x ≡ map learned_shown c.learned)
-  all_learned_found = IfOk-weaker r _ _ (λ x h version keeps c was. shown_all value_in learned_shown 2 two_columns c.learned (rising 1 c.learned was.tables.sound.1) (overlay old.now.trees [])
-      (table_of_learned version keeps old.now.trees c was.tables.learned_are) (λ v. refl) (items x) ((reads (all_learned_is version keeps) _ old new was.schema (items x) h).answer Null))
+  pub all_learned_found : IfOk r (λ x. Shown all_learned_query [] old new (items x))
+      → IfOk r (λ x. (version : Version) (learned : List (ℕ × List ℕ)) → KeepsLearned version → old.now.schema ≡ schema_of version → AreRowsFrom 1 learned → old.now.trees 2 ≡ map learned_row learned → items x ≡ map learned_shown learned)
+  all_learned_found = IfOk-weaker r _ _ (λ x h version learned keeps schema sound are. shown_all value_in learned_shown 2 two_columns learned (rising 1 learned sound) (overlay old.now.trees [])
+      are (λ v. refl) (items x) ((reads (all_learned_is version keeps) _ old new schema (items x) h).answer Null))

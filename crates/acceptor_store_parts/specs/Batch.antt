@@ -29,12 +29,14 @@ PutsAllInside id writes old new =
 abbrev pub LeadsInside : (Content → Content → Type 0) → Option ℕ → State → State → Type 0
 LeadsInside Leads next old new =
     IsTrue new.in_transaction
-    × ((owner : Option Owner) (n : ℕ) (c : Content) → IsNext owner n next → HoldsAt owner n old.now c → (last : Content) × Leads c last × HoldsAt owner (n + 1) new.now last)
+    × ((owner : Option Owner) (n : ℕ) (c : Content) → IsNext owner n next → HoldsAt owner n old.now c
+    → (last : Content) × Leads c last × HoldsAt owner (n + 1) new.now last)
 
 -- inside a transaction, the tables hold what they held, and count one more
 abbrev pub CountsInside : Option ℕ → State → State → Type 0
 CountsInside next old new =
-    IsTrue new.in_transaction × ((owner : Option Owner) (n : ℕ) (c : Content) → IsNext owner n next → HoldsAt owner n old.now c → HoldsAt owner (n + 1) new.now c)
+    IsTrue new.in_transaction
+    × ((owner : Option Owner) (n : ℕ) (c : Content) → IsNext owner n next → HoldsAt owner n old.now c → HoldsAt owner (n + 1) new.now c)
 
 -- it serves what these writes of a node lead to from what it served, for the same owner, and counts one more
 abbrev pub HasWrittenAll : ℕ → List WriteBytes → Option ℕ → State → State → Type 0

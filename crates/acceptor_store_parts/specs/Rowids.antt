@@ -43,7 +43,9 @@ pub record AreByRowid (version : Version) (s : State) : Type 0 where
 
 -- where what is shown is numbers, the table holds them
 abbrev pub ShowsNumbers : State → List Row → Type 0
-ShowsNumbers s rows = (version : Version) → AreByRowid version s → (numbers : List (ℕ × ℕ)) → rows ≡ map (λ e. number_shown e.0 e.1) numbers → s.now.trees 0 ≡ map (λ e. number_row e.0 e.1) numbers
+ShowsNumbers s rows =
+    (version : Version) → AreByRowid version s → (numbers : List (ℕ × ℕ)) → rows ≡ map (λ e. number_shown e.0 e.1) numbers
+    → s.now.trees 0 ≡ map (λ e. number_row e.0 e.1) numbers
 
 -- where what is shown is votes, the table holds them
 abbrev pub ShowsVotes : State → List Row → Type 0
@@ -52,7 +54,8 @@ ShowsVotes s rows = (version : Version) → AreByRowid version s → (votes : Li
 -- where what is shown is learned values, the table holds them
 abbrev pub ShowsLearned : State → List Row → Type 0
 ShowsLearned s rows =
-    (version : Version) → KeepsLearned version → AreByRowid version s → (learned : List (ℕ × List ℕ)) → rows ≡ map learned_shown learned → s.now.trees 2 ≡ map learned_row learned
+    (version : Version) → KeepsLearned version → AreByRowid version s → (learned : List (ℕ × List ℕ)) → rows ≡ map learned_shown learned
+    → s.now.trees 2 ≡ map learned_row learned
 
 -- where what is shown is facts, the table holds them
 abbrev pub ShowsFacts : State → List Row → Type 0

@@ -1,7 +1,12 @@
--- What is wrong of a schema that no node made.
-use Rattle.std.specs.Prelude.{◌≡◌, ◌≢◌, ◌⊎◌, ℕ, List, codes, Some, slice_get}
+-- What is wrong of a schema that no node made, and of rows that no node writes.
+use Rattle.std.specs.List.{AllByRecursion}
+use Rattle.std.specs.Prelude.{◌≡◌, ◌≢◌, ◌⊎◌, ℕ, List, codes, map, Some, slice_get}
+use Rattle.acceptor.specs.Content.{AreRowsFrom}
+use Rattle.ballots.specs.declared.letters.Cast.{Cast}
+use Rattle.sqlite.specs.Effect.{Database}
 use Rattle.sqlite.specs.Schema.{Schema}
 use Rattle.sqlite.specs.Table.{Table}
+use Rattle.sqlite.specs.Tree.{Trees}
 use Rattle.sqlite_schema.specs.Names.{table_named}
 use Rattle.acceptor_store_parts.specs.declared.Version.{Version}
 use Rattle.acceptor_store_parts.specs.declared.wrong.NodeTable.{NodeTable}
@@ -9,6 +14,8 @@ use Rattle.acceptor_store_parts.specs.declared.wrong.NodeTable.TheVariants.{Ball
 use Rattle.acceptor_store_parts.specs.declared.wrong.WrongPart.{WrongPart}
 use Rattle.acceptor_store_parts.specs.declared.wrong.WrongPart.TheVariants.{Missing, Changed, Further}
 use Rattle.acceptor_store_parts.specs.Foreign.{HasFacts}
+use Rattle.acceptor_store_parts.specs.Rowids.{AreShaped}
+use Rattle.acceptor_store_parts.specs.Stored.{IsCast, IsLearned, KeepsLearned, learned_row, vote_row}
 use Rattle.acceptor_store_parts.specs.Tables.{ballot_table, vote_table, learned_table, fact_table, schema_of}
 
 -- the name of a table of a node, and the table as a node makes it
@@ -69,3 +76,32 @@ IsVersions s = (version : Version) × (s ≡ schema_of version)
 
 abbrev pub IsNoVersions : Schema → Type 0
 IsNoVersions s = (version : Version) → s ≢ schema_of version
+
+-- the table of votes has these, which a node writes
+pub record HoldsVotes (db : Trees) (votes : List (ℕ × Cast)) : Type 0 where
+  pub rows : db 1 ≡ map vote_row votes
+  pub casts : AllByRecursion IsCast votes
+  pub rising : AreRowsFrom 1 votes
+
+-- the table of learned values has these, which a node writes
+pub record HoldsLearned (db : Trees) (learned : List (ℕ × List ℕ)) : Type 0 where
+  pub rows : db 2 ≡ map learned_row learned
+  pub values : AllByRecursion IsLearned learned
+  pub rising : AreRowsFrom 1 learned
+
+-- in the tables of a version there are no such votes, or no such learned values
+abbrev pub HasWrongVotes : Database → Type 0
+HasWrongVotes d = (version : Version) → d.schema ≡ schema_of version → (votes : List (ℕ × Cast)) → HoldsVotes d.trees votes → ⊥
+
+abbrev pub HasWrongLearned : Database → Type 0
+HasWrongLearned d =
+    (version : Version) → KeepsLearned version → d.schema ≡ schema_of version → (learned : List (ℕ × List ℕ)) → HoldsLearned d.trees learned → ⊥
+
+-- where the tables are by rowid, there are such votes, or such learned values
+abbrev pub HasRightVotes : Database → Type 0
+HasRightVotes d = (version : Version) → d.schema ≡ schema_of version → AreShaped version d.trees → (votes : List (ℕ × Cast)) × HoldsVotes d.trees votes
+
+abbrev pub HasRightLearned : Database → Type 0
+HasRightLearned d =
+    (version : Version) → KeepsLearned version → d.schema ≡ schema_of version → AreShaped version d.trees
+    → (learned : List (ℕ × List ℕ)) × HoldsLearned d.trees learned

@@ -3,11 +3,10 @@
 ghost use Rattle.std.specs.Prelude.{◌≡◌, ◌≢◌, ℕ, List, false, map, IfErr, IfOk, OnOk, IsTrue};
 ghost use Rattle.std.specs.List.{AllByRecursion};
 ghost use Rattle.ballots.specs.Rows.{at, rows_from};
-ghost use Rattle.acceptor.specs.Content.{AreRowsFrom, Content};
+ghost use Rattle.acceptor.specs.Content.{AreRowsFrom};
 ghost use Rattle.sqlite.specs.State.{HasCleanDisk, Survives, IsUnchanged};
 ghost use Rattle.sqlite.specs.Held.{state};
-ghost use Rattle.acceptor_store_parts.specs.Stored.{IsLearned, KeepsLearned, learned_shown, first_of};
-ghost use Rattle.acceptor_store_parts.specs.Serves.{ServesAs};
+ghost use Rattle.acceptor_store_parts.specs.Stored.{IsLearned, KeepsLearned, first_of, learned_row, learned_shown};
 ghost use Rattle.acceptor_store_parts.specs.Tables.{schema_of};
 ghost use Rattle.acceptor_store_parts.specs.Tests.{IsFault};
 ghost use Rattle.acceptor_store_parts.specs.Rowids.{ShowsLearned};
@@ -77,8 +76,9 @@ pub fn are_rising(learned: &[(Place, Value)]) -> bool
 /// All rows of the table of learned values, whatever they are.
 pub fn query_all_learned<S: Alter>(conn: &mut Connection<S>) -> Result<Vec<Row>, Error>
     ensures held { HasCleanDisk (state S.Store conn.new) → IfOk result (λ rows. ShowsLearned (state S.Store conn.old) rows.items) }
-    ensures value { HasCleanDisk (state S.Store conn.new) → IfOk result (λ rows. (version : _) → KeepsLearned version → (c : Content)
-        → ServesAs version (state S.Store conn.old) c → rows.items ≡ map learned_shown c.learned) }
+    ensures value { HasCleanDisk (state S.Store conn.new) → IfOk result (λ rows. (version : _) (learned : List (ℕ × List ℕ)) → KeepsLearned version
+        → (state S.Store conn.old).now.schema ≡ schema_of version → AreRowsFrom 1 learned
+        → (state S.Store conn.old).now.trees 2 ≡ map learned_row learned → rows.items ≡ map learned_shown learned) }
     ensures same { HasCleanDisk (state S.Store conn.new) → (version : _) → KeepsLearned version → (state S.Store conn.old).now.schema ≡ schema_of version
         → OnOk result (IsUnchanged (state S.Store conn.old) (state S.Store conn.new)) }
     ensures fails { HasCleanDisk (state S.Store conn.new) → (version : _) → KeepsLearned version → (state S.Store conn.old).now.schema ≡ schema_of version

@@ -1,12 +1,11 @@
 //! What is wrong of a schema that no node made.
 
-ghost use Rattle.std.specs.Prelude.{◌≡◌, ◌↔◌, IfNone, IfOk, IfSome, IsTrue, MatchOption};
-ghost use Rattle.acceptor.specs.Content.{Content};
+ghost use Rattle.std.specs.Prelude.{◌≡◌, ◌↔◌, IfNone, IfOk, IfSome, IsTrue, MatchOption, OnOk, false};
+ghost use Rattle.sqlite.specs.Effect.{IsDatabase};
 ghost use Rattle.sqlite.specs.Held.{state};
-ghost use Rattle.sqlite.specs.State.{HasCleanDisk};
-ghost use Rattle.acceptor_store_parts.specs.Serves.{ServesAs};
-ghost use Rattle.acceptor_store_parts.specs.Stored.{IsOfNode, KeepsLearned};
-ghost use Rattle.acceptor_store_parts.specs.Wrong.{AreRightBefore, HasAs, HasNowhere, IsNeeded, IsNoVersions, IsRight};
+ghost use Rattle.sqlite.specs.State.{HasCleanDisk, IsUnchanged};
+ghost use Rattle.acceptor_store_parts.specs.Wrong.{AreRightBefore, HasAs, HasNowhere, HasRightLearned, HasRightVotes};
+ghost use Rattle.acceptor_store_parts.specs.Wrong.{HasWrongLearned, HasWrongVotes, IsNeeded, IsNoVersions, IsRight};
 ghost use Rattle.acceptor_store_parts.specs.Wrong.{IsVersions, IsWrong, made_table, name_of};
 
 use crate::foreign::{find_table, has_facts};
@@ -162,8 +161,11 @@ pub fn wrong_part(alloc: Global, schema: &Schema) -> Result<Option<WrongPart>, A
 
 /// Whether the rows of the table of votes are none that a node writes.
 pub fn has_wrong_votes<S: Alter>(alloc: Global, conn: &mut Connection<S>) -> Result<bool, Stop>
-    ensures { HasCleanDisk (state S.Store conn.new) → IfOk result (λ wrong. IsTrue wrong → (version : _) (c : Content)
-        → ServesAs version (state S.Store conn.old) c → IsOfNode c → ⊥) }
+    ensures wrong { HasCleanDisk (state S.Store conn.new) → IfOk result (λ wrong. IsTrue wrong → HasWrongVotes (state S.Store conn.old).now) }
+    ensures right { HasCleanDisk (state S.Store conn.new) → IfOk result (λ wrong. wrong ≡ false → IsDatabase (state S.Store conn.old).now
+        → HasRightVotes (state S.Store conn.old).now) }
+    ensures same { HasCleanDisk (state S.Store conn.new) → IsVersions (state S.Store conn.old).now.schema
+        → OnOk result (IsUnchanged (state S.Store conn.old) (state S.Store conn.new)) }
 {
     let rows = match query_all_votes(conn) {
         Ok(rows) => rows,
@@ -178,8 +180,9 @@ pub fn has_wrong_votes<S: Alter>(alloc: Global, conn: &mut Connection<S>) -> Res
 
 /// The same of the table of learned values, where it is there.
 pub fn has_wrong_learned<S: Alter>(alloc: Global, conn: &mut Connection<S>) -> Result<bool, Stop>
-    ensures { HasCleanDisk (state S.Store conn.new) → IfOk result (λ wrong. IsTrue wrong → (version : _) → KeepsLearned version
-        → (c : Content) → ServesAs version (state S.Store conn.old) c → IsOfNode c → ⊥) }
+    ensures wrong { HasCleanDisk (state S.Store conn.new) → IfOk result (λ wrong. IsTrue wrong → HasWrongLearned (state S.Store conn.old).now) }
+    ensures right { HasCleanDisk (state S.Store conn.new) → IfOk result (λ wrong. wrong ≡ false → IsDatabase (state S.Store conn.old).now
+        → HasRightLearned (state S.Store conn.old).now) }
 {
     if conn.schema().table_named(b"learned").is_none() {
         return Ok(false);

@@ -100,7 +100,7 @@ impl OwnedUse for StaysDown {
 enum Again {
     /// A reopen of records in which one write was made.
     Reopen,
-    /// A restart of a node over records that are opened by `open_files`.
+    /// A restart of a node over records that were opened.
     Restart,
 }
 

@@ -1,13 +1,13 @@
 //! Records that are opened, used and closed. Few functions know what they stand in: the proof of
 //! one that does is dear.
 
-ghost use Rattle.std.specs.Prelude.{IfOk, IsTrue};
+ghost use Rattle.std.specs.Prelude.{IsTrue};
 ghost use Rattle.acceptor.specs.Content.{Content};
 ghost use Rattle.acceptor.specs.Found.{Holds};
 
 use crate::files::{Bodies, Fused, Stopped, connected, found, left_behind, run, stopping};
 use acceptor::Records;
-use acceptor_store::{OpenFault, OwnerFault, SqlRecords, open_files};
+use acceptor_store::{OpenFault, OwnerFault, SqlRecords};
 use ballots::{Ballot, Bytes, Members, NodeId, Place, Value, Votes};
 use sqlite::{Connection, Files};
 use sqlite_disk::Disk;
@@ -286,29 +286,29 @@ pub trait OwnedUse: Drop {
         requires certain { IsTrue (R.is_honest records) → ∥ ((c : Content) × Holds (R.may_find records) c) ∥₁ };
 }
 
-/// Uses the records up, where they are open. It knows no store: at a store over files the proof is
-/// dear.
+/// Uses the records up that open over the connection. It knows no store: at a store over files the
+/// proof is dear.
 fn owned<S: OpensAnew, U: OwnedUse>(
     alloc: Global,
-    records: Result<SqlRecords<S>, OpenFault>,
+    conn: Connection<S>,
     user: U,
-) -> Result<U::Answer, Fail>
-    requires certain { IfOk records (λ r. IsTrue (⟦<SqlRecords<S> as Records>⟧.is_honest r)
-        → ∥ ((c : Content) × Holds (⟦<SqlRecords<S> as Records>⟧.may_find r) c) ∥₁) }
-{
-    match records {
+) -> Result<U::Answer, Fail> {
+    match SqlRecords::open(alloc, conn) {
         Ok(records) => user.use_owned(alloc, records),
-        Err(fault) => Err(Fail::new(format_args!("it doesn't open: {fault}"))),
+        Err((fault, _store)) => Err(Fail::new(format_args!("it doesn't open: {fault}"))),
     }
 }
 
-/// Uses the records up that `open_files` opens in these files.
+/// Uses the records up that open in these files.
 pub fn owned_in<D: Disk + Drop, U: OwnedUse>(
     alloc: Global,
     files: Files<D>,
     user: U,
 ) -> Result<U::Answer, Fail> {
-    owned(alloc, open_files(alloc, files), user)
+    match connected(alloc, files) {
+        Ok(conn) => owned(alloc, conn, user),
+        Err(_files) => Err(Fail::new("no connection")),
+    }
 }
 
 /// The value of these bytes.

@@ -1,8 +1,6 @@
 -- A node in memory beside the records of its files.
-use Rattle.std.proofs.Common.{◌≡◌, ◌∙◌, ℕ, Bool, false, IsTrue, Option, Result, Ok, Err, IfOk, OnOk, refl}
+use Rattle.std.proofs.Common.{◌≡◌, ◌∙◌, ℕ, Bool, false, IsTrue, Result, Ok, Err, IfOk, OnOk, refl}
 use Rattle.std.proofs.Common.{sym, subst}
-use Rattle.std.specs.Prelude.{MatchResult}
-use Rattle.std.proofs.lemmas.Result.{IfOk-weaker}
 use Rattle.std.proofs.Math.Logic.{∥∥₁_map}
 use Rattle.acceptor.specs.Content.{Content, IsSound, no_content}
 use Rattle.acceptor.specs.Found.{Findable, FindsSame, Holds}
@@ -13,8 +11,7 @@ use Rattle.node.specs.View.{Standing, View, started}
 use Rattle.node.specs.View.Standing.{Running}
 use Rattle.node.specs.declared.parts.Parts.{Parts}
 use Rattle.seats.specs.Fresh.{IsFreshAt}
-use Rattle.stored_nodes.specs.Starts.{ComesOfStart, ComesOfUse, HasStarted, HasStartedBeside}
-use Rattle.stored_nodes.proofs.Started.{comes_of_start}
+use Rattle.stored_nodes.specs.Starts.{HasStartedBeside}
 
 -- records in memory hold what they are
 pub holds_itself : (c : Content) → Holds (is_it c) c
@@ -83,13 +80,3 @@ beside_more who stands honest held found other count number is_new (Ok x) more i
   sound = it.sound;
 }
 beside_more who stands honest held found other count number is_new (Err fault) more it = tt
-
--- what its use promises of it comes of its start
-pub comes_of_beside : {N S A E : Type 0} (who : N → Who) (stands : N → Standing → Type 0) (honest : S → Bool) (held : S → Findable) (found : Bool → Content → Type 0) (count number : ℕ) (is_new : Bool) (comes : Option Content → A → Type 0)
-    (started : Result (N × S) E) (result : Result A E) → IfOk started (λ x. HasStartedBeside who stands (honest x.1) (held x.1) found count number is_new x.0)
-    → MatchResult started (λ x. IfOk result (ComesOfUse stands (honest x.1) comes x.0)) (λ fault. result ≡ Err fault) → IfOk result (ComesOfStart comes found is_new)
-comes_of_beside who stands honest held found count number is_new comes (Ok x) result it used =
-    IfOk-weaker result _ _ (λ answer came.
-    let has : HasStarted who (λ _. honest x.1) stands found count number is_new x.0 = record { id = it.id; members = it.members; up = it.up; over = λ is. let had = it.over is in (had.0, had.1, had.3) } in
-    comes_of_start comes answer has came.0 came.1) used
-comes_of_beside who stands honest held found count number is_new comes (Err fault) result it is = subst (λ r. IfOk r (ComesOfStart comes found is_new)) (sym is) tt

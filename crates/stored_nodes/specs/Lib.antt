@@ -1,4 +1,5 @@
 pub mod Alone
+pub mod Causes
 pub mod Faults
 pub mod Kept
 pub mod Looks

@@ -1,5 +1,5 @@
 -- What is told of files that lost something.
-use Rattle.std.specs.Prelude.{◌≡◌, ◌⊎◌, ◌<◌, ℕ, IsSomeAnd, Option}
+use Rattle.std.specs.Prelude.{◌≡◌, ◌≢◌, ◌⊎◌, ◌<◌, ℕ, IsSomeAnd, Option}
 use Rattle.log_ties.specs.Ties.{IsLost, RefusesTie}
 use Rattle.log_ties.specs.declared.tie.Loss.{Loss}
 use Rattle.sqlite_disk.specs.Disk.{MoreFaults}
@@ -28,6 +28,14 @@ IsLossOf image loss = IsLost image loss ⊎ (((other : Loss) → ¬ IsLost image
 -- the same, as one open of each showed their tables
 abbrev pub ShowsLoss : Image → Loss → Type 0
 ShowsLoss image loss = IsLost image loss ⊎ ShowsByTables image loss
+
+-- the fault tells of no loss
+abbrev pub IsNoLoss : StartFault → Type 0
+IsNoLoss fault = (loss : Loss) → fault ≢ Lost loss
+
+-- what the fault tells to be lost shows in the two files
+abbrev pub TellsShown : Image → StartFault → Type 0
+TellsShown image fault = (loss : Loss) → fault ≡ Lost loss → ShowsLoss image loss
 
 -- what a refusal before an open says of the files, and of how many calls of theirs failed before it and with it
 abbrev pub IsDueFor : (Loss → Type 0) → Image → ℕ → ℕ → StartFault → Type 0

@@ -12,7 +12,8 @@ BeginsOver found is_new c = (IsTrue is_new → c ≡ no_content) × found is_new
 
 -- a node of this number and so many members is up; if its records are honest, it is as one that starts over such a
 -- content
-pub record HasStarted {N : Type 0} (who : N → Who) (honest : N → Bool) (stands : N → Standing → Type 0) (found : Bool → Content → Type 0) (count number : ℕ) (is_new : Bool) (node : N) : Type 0 where
+pub record HasStarted {N : Type 0} (who : N → Who) (honest : N → Bool) (stands : N → Standing → Type 0)
+    (found : Bool → Content → Type 0) (count number : ℕ) (is_new : Bool) (node : N) : Type 0 where
   pub id : (who node).id ≡ number
   pub members : (who node).members ≡ count
   pub up : (who node).down ≡ false
@@ -24,7 +25,8 @@ ComesOfStart comes found is_new answer = comes None answer ⊎ ((c : Content) ×
 
 -- a node in memory, of this number and so many members, is up beside the records of its files, as one that starts over
 -- some content. If these are honest, that is such a content, which they hold and which is sound, and it may have no other
-pub record HasStartedBeside {N : Type 0} (who : N → Who) (stands : N → Standing → Type 0) (honest : Bool) (held : Findable) (found : Bool → Content → Type 0) (count number : ℕ) (is_new : Bool) (node : N) : Type 0 where
+pub record HasStartedBeside {N : Type 0} (who : N → Who) (stands : N → Standing → Type 0) (honest : Bool) (held : Findable)
+    (found : Bool → Content → Type 0) (count number : ℕ) (is_new : Bool) (node : N) : Type 0 where
   pub id : (who node).id ≡ number
   pub members : (who node).members ≡ count
   pub up : (who node).down ≡ false
@@ -32,8 +34,3 @@ pub record HasStartedBeside {N : Type 0} (who : N → Who) (stands : N → Stand
   pub over : IsTrue honest → (c : Content) × BeginsOver found is_new c × Holds held c × stands node (Running (started c))
   pub same : IsTrue honest → (c : Content) → Holds held c → (view : View) → stands node (Running view) → view.content ≡ c
   pub sound : IsTrue honest → (c : Content) → Holds held c → IsSound c
-
--- the answer is one that is promised of such a node beside records that aren't honest, or that are and over such a content
-abbrev pub ComesOfUse : {N A : Type 0} → (N → Standing → Type 0) → Bool → (Option Content → A → Type 0) → N → A → Type 0
-ComesOfUse stands honest comes node answer =
-    ((IsTrue honest → ⊥) → comes None answer) × (IsTrue honest → (c : Content) → stands node (Running (started c)) → comes (Some c) answer)

@@ -1,6 +1,6 @@
 //! Records over files whose database holds the node's tables by itself, without its log.
 
-ghost use Rattle.std.specs.Prelude.{◌≡◌, ◌≢◌, IfOk, IsTrue, OnOk, Some};
+ghost use Rattle.std.specs.Prelude.{◌≡◌, ◌≢◌, IfErr, IfOk, IsTrue, OnOk, Some};
 ghost use Rattle.acceptor.specs.Content.{Content, no_content};
 ghost use Rattle.acceptor.specs.Found.{Holds};
 ghost use Rattle.acceptor_store.specs.Linked.{IsHonest, MayFind, is_clean_in};
@@ -10,6 +10,7 @@ ghost use Rattle.sqlite.specs.Files.{file_state, over_files};
 ghost use Rattle.sqlite.specs.State.{HasCleanDisk};
 ghost use Rattle.stored_nodes.specs.Alone.{IsAlone, ReadsCopy};
 ghost use Rattle.stored_nodes.specs.Kept.{IsOwnedAs};
+ghost use Rattle.stored_nodes.specs.Lost.{IsNoLoss};
 
 use crate::connection::{reopened, told};
 use crate::start::StartFault;
@@ -48,7 +49,8 @@ fn copied<D: Disk + Drop>(
     conn: Connection<FileStore<D>>,
     before: Tally,
 ) -> Result<Connection<FileStore<D>>, StartFault>
-    ensures { IfOk result (λ c. HasCleanDisk (file_state c) → ReadsCopy conn c) }
+    ensures copied { IfOk result (λ c. HasCleanDisk (file_state c) → ReadsCopy conn c) }
+    ensures no_loss { IfErr result IsNoLoss }
 {
     match conn.close_files() {
         Ok(files) => reopened(alloc, files),
@@ -65,6 +67,7 @@ fn made<D: Disk + Drop>(
     ensures clean { IfOk result (λ c. HasCleanDisk (file_state c) → HasCleanDisk (file_state conn)) }
     ensures made { IfOk result (λ c. HasCleanDisk (file_state c) → (file_state conn).now.schema ≡ blank_schema
         → ServesFor (Some owner) (file_state c) no_content) }
+    ensures no_loss { IfErr result IsNoLoss }
 {
     match acceptor_store_parts::make(conn, Making::OwnedTables(owner)) {
         Ok(made) => Ok(made),
@@ -81,6 +84,7 @@ fn settled<D: Disk + Drop>(
 ) -> Result<Connection<FileStore<D>>, StartFault>
     ensures same { tie ≡ Tie.Tied → IfOk result (λ c. c ≡ conn) }
     ensures copied { tie ≢ Tie.Tied → IfOk result (λ c. HasCleanDisk (file_state c) → ReadsCopy conn c) }
+    ensures no_loss { IfErr result IsNoLoss }
 {
     if tie == Tie::Tied {
         Ok(conn)
@@ -101,6 +105,7 @@ fn opened_as<D: Disk + Drop>(
     ensures owner { IfOk result (λ r. r.owner ≡ Some owner) }
     ensures clean { IfOk result (λ r. IsHonest over_files r → HasCleanDisk (file_state conn)) }
     ensures sure { IfOk result (λ r. IsTrue (is_clean_in over_files r.held) → IsHonest over_files r) }
+    ensures no_loss { IfErr result IsNoLoss }
 {
     match SqlRecords::open_as(alloc, conn, owner.node, owner.members, false) {
         Ok(records) => Ok(records),
@@ -114,7 +119,9 @@ fn taken<D: Disk + Drop>(
     conn: Connection<FileStore<D>>,
     owner: Owner,
     before: Tally,
-) -> StartFault {
+) -> StartFault
+    ensures { IsNoLoss result }
+{
     match opened_as(alloc, conn, owner, before) {
         Ok(_records) => StartFault::NotFresh,
         Err(fault) => fault,
@@ -134,6 +141,7 @@ fn made_records<D: Disk + Drop>(
     ensures owner { IfOk result (λ r. r.owner ≡ Some owner.now) }
     ensures clean { IfOk result (λ r. IsHonest over_files r → HasCleanDisk (file_state conn)) }
     ensures sure { IfOk result (λ r. IsTrue (is_clean_in over_files r.held) → IsHonest over_files r) }
+    ensures no_loss { IfErr result IsNoLoss }
 {
     let filled = made(conn, *owner, before)?;
     let again = copied(alloc, filled, before)?;
@@ -153,6 +161,7 @@ pub(crate) fn new_records<D: Disk + Drop>(
     ensures owner { IfOk result (λ r. r.owner ≡ Some owner) }
     ensures clean { IfOk result (λ r. IsHonest over_files r → HasCleanDisk (file_state conn)) }
     ensures sure { IfOk result (λ r. IsTrue (is_clean_in over_files r.held) → IsHonest over_files r) }
+    ensures no_loss { IfErr result IsNoLoss }
 {
     if acceptor_store_parts::is_blank(conn.schema()) {
         made_records(alloc, conn, &owner, before)
@@ -175,6 +184,7 @@ pub(crate) fn old_records<D: Disk + Drop>(
     ensures owner { IfOk result (λ r. r.owner ≡ Some owner) }
     ensures clean { IfOk result (λ r. IsHonest over_files r → HasCleanDisk (file_state conn)) }
     ensures sure { IfOk result (λ r. IsTrue (is_clean_in over_files r.held) → IsHonest over_files r) }
+    ensures no_loss { IfErr result IsNoLoss }
 {
     if acceptor_store_parts::is_blank(conn.schema()) {
         return Err(StartFault::Unopened(OwnerFault::Blank));

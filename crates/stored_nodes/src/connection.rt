@@ -1,11 +1,11 @@
 //! Connections to files that lost nothing, and why there are none.
 
-ghost use Rattle.std.specs.Prelude.{◌≡◌, ◌<◌, ◌≤◌, ◌&&◌, Err, true, false, IfOk, IsErrAnd};
+ghost use Rattle.std.specs.Prelude.{◌≡◌, ◌<◌, ◌≤◌, ◌&&◌, Err, true, false, IfErr, IfOk, IsErrAnd};
 ghost use Rattle.log_ties.specs.Ties.{IsUncopied};
 ghost use Rattle.log_ties.specs.declared.tie.Loss.{Loss};
 ghost use Rattle.sqlite.specs.Files.{file_state, image_of, Finds, IsOpened};
 ghost use Rattle.sqlite.specs.State.{HasCleanDisk};
-ghost use Rattle.stored_nodes.specs.Lost.{IsLossOf, NeverLies, TellsLoss};
+ghost use Rattle.stored_nodes.specs.Lost.{IsLossOf, IsNoLoss, NeverLies, TellsLoss, TellsShown};
 
 use crate::start::{FileFault, StartFault};
 use crate::ties::refuse_lost;
@@ -29,6 +29,7 @@ pub(crate) fn unopened(error: SqlError) -> StartFault
     ensures memory { error ≡ SqlError.SqliteFailure ErrorCode.OutOfMemory → result ≡ StartFault.Unopened (OwnerFault.Open OpenFault.OutOfMemory) }
     ensures full { error ≡ SqlError.SqliteFailure ErrorCode.DiskFull → result ≡ StartFault.Unusable FileFault.NoRoom }
     ensures failed { error ≡ SqlError.SqliteFailure ErrorCode.SystemIoFailure → result ≡ StartFault.Unusable FileFault.Failed }
+    ensures no_loss { IsNoLoss result }
 {
     match error {
         SqlError::SqliteFailure(ErrorCode::OutOfMemory) => refused(OpenFault::OutOfMemory),
@@ -44,6 +45,7 @@ pub(crate) fn unopened(error: SqlError) -> StartFault
 pub(crate) fn told(fault: OwnerFault, before: Tally, since: Tally) -> StartFault
     ensures full { before.refused < since.refused → result ≡ StartFault.Unusable FileFault.NoRoom }
     ensures other { since.refused ≤ before.refused → result ≡ StartFault.Unopened fault }
+    ensures no_loss { IsNoLoss result }
 {
     if before.refused < since.refused {
         StartFault::Unusable(FileFault::NoRoom)
@@ -59,6 +61,7 @@ pub(crate) fn reopened<D: Disk + Drop>(
 ) -> Result<Connection<FileStore<D>>, StartFault>
     ensures opened { IfOk result (λ c. HasCleanDisk (file_state c) → IsOpened c) }
     ensures found { IfOk result (λ c. HasCleanDisk (file_state c) → Finds files c) }
+    ensures no_loss { IfErr result IsNoLoss }
 {
     match open_again(alloc, files, Options::new(SEED)) {
         Ok(conn) => Ok(conn),
@@ -77,6 +80,7 @@ pub(crate) fn connected<D: Disk + Drop>(
     ensures lost { (loss : Loss) → IsLossOf (image_of D.Disk files) loss → IfOk result (λ r. HasCleanDisk (file_state r.0) → ⊥) }
     ensures told { NeverLies D.Disk → (D.Disk.is_usable files.log && D.Disk.is_usable files.db) ≡ true → (loss : Loss)
         → IsLossOf (image_of D.Disk files) loss → IsErrAnd result (TellsLoss loss) }
+    ensures due { NeverLies D.Disk → IfErr result (TellsShown (image_of D.Disk files)) }
     ensures broken { (D.Disk.is_usable files.log && D.Disk.is_usable files.db) ≡ false
         → result ≡ Err (StartFault.Unopened (OwnerFault.Open OpenFault.Broken)) }
 {

@@ -7,7 +7,7 @@ ghost use Rattle.acceptor.specs.Content.{Content};
 ghost use Rattle.acceptor.specs.Found.{Holds};
 ghost use Rattle.acceptor_store.specs.Linked.{IsHonest, MayFind};
 ghost use Rattle.ballots.specs.Members.{member_count};
-ghost use Rattle.sqlite.specs.Files.{faults_of, image_of};
+ghost use Rattle.sqlite.specs.Files.{faults_of, image_of, over_files};
 ghost use Rattle.sqlite_disk.specs.Disk.{MoreFaults};
 ghost use Rattle.sqlite_disk.specs.Memory.{memory_bytes, memory_is_usable};
 ghost use Rattle.sqlite_wal.specs.Reads.{AreClean, IsClean, OnlyReads};
@@ -15,11 +15,12 @@ ghost use Rattle.stored_nodes.specs.Looks.{image_in};
 ghost use Rattle.stored_nodes.specs.States.{StayFiles, StaysFile};
 
 use crate::fresh::begun_with;
+use crate::looks::opened_copy;
 use crate::owned::{Claim, begins_over};
 use crate::start::{FileFault, StartFault};
-use acceptor_store::{OwnerFault, SqlRecords, open_files};
+use acceptor_store::{OpenFault, OwnerFault, SqlRecords};
 use ballots::{Members, NodeId};
-use sqlite::Files;
+use sqlite::{FileStore, Files};
 use sqlite_disk::{Disk, Memory};
 use std::alloc::Global;
 use std::io;
@@ -103,6 +104,22 @@ fn begins_with<S: OpensAnew>(
     }
 }
 
+/// Records of nobody over a copy, whatever was lost of what it is a copy of.
+fn nobodys_records<D: Disk + Drop>(
+    alloc: Global,
+    copy: Files<D>,
+) -> Result<SqlRecords<FileStore<D>>, OpenFault>
+    requires log { IsTrue (D.Disk.is_usable copy.log) }
+    requires db { IsTrue (D.Disk.is_usable copy.db) }
+    ensures { IfOk result (λ r. IsHonest over_files r → (c : Content) × Holds (MayFind over_files r.owner r.held) c) }
+{
+    let conn = opened_copy(alloc, copy)?;
+    match SqlRecords::open(alloc, conn) {
+        Ok(records) => Ok(records),
+        Err((fault, _store)) => Err(fault),
+    }
+}
+
 /// Whether a node of nobody's begins over what is left in a copy of files that lost something, or why it doesn't.
 pub(crate) fn begins_by_rest<D: Disk>(
     alloc: Global,
@@ -117,7 +134,7 @@ pub(crate) fn begins_by_rest<D: Disk>(
         return Err(StartFault::Unusable(FileFault::Failed));
     }
     let copy = copy_of(alloc, files)?;
-    match open_files(alloc, copy) {
+    match nobodys_records(alloc, copy) {
         Ok(records) => begins_with(alloc, records, id, members),
         Err(fault) => Err(StartFault::Unopened(OwnerFault::Open(fault))),
     }

@@ -2,7 +2,6 @@
 #![tactic(auto)]
 
 mod alone;
-mod batched;
 mod connection;
 mod copies;
 mod fault;
@@ -25,12 +24,11 @@ mod ties;
 mod times;
 mod uses;
 
-pub use batched::{BatchedUse, use_batched_at};
 pub use fault::StoreFault;
 pub use folder::use_nodes_in;
 pub use foreign::{ForeignCause, foreign_cause, foreign_cause_at};
 pub use no_commits::{lacks_commits, lacks_commits_at};
-pub use opens::records_for;
+pub use opens::{open_files, records_for};
 pub use own_file::{new_node_of, node_of};
 pub use owned::{begun_node, resumed_node};
 pub use refusals::CountsRefusals;

@@ -1,6 +1,6 @@
 //! What a node's records are opened from, whatever they are then.
 
-ghost use Rattle.std.specs.Prelude.{◌≡◌, ◌&&◌, Bool, Err, true, false, IfOk, IsErrAnd, IsTrue, Some};
+ghost use Rattle.std.specs.Prelude.{◌≡◌, ◌&&◌, Bool, Err, true, false, IfErr, IfOk, IsErrAnd, IsTrue, None, Some};
 ghost use Rattle.acceptor.specs.Content.{Content};
 ghost use Rattle.acceptor.specs.Found.{Holds};
 ghost use Rattle.acceptor_store.specs.Linked.{IsHonest, MayFind, is_clean_in};
@@ -8,7 +8,8 @@ ghost use Rattle.acceptor_store_parts.specs.declared.owner.Owner.{Owner as Named
 ghost use Rattle.log_ties.specs.declared.tie.Loss.{Loss};
 ghost use Rattle.sqlite.specs.Files.{image_of, over_files};
 ghost use Rattle.stored_nodes.specs.Alone.{IsBegunIn};
-ghost use Rattle.stored_nodes.specs.Lost.{IsLossOf, NeverLies, TellsLoss};
+ghost use Rattle.stored_nodes.specs.Kept.{IsFoundIn};
+ghost use Rattle.stored_nodes.specs.Lost.{IsLossOf, NeverLies, TellsLoss, TellsShown};
 
 use crate::alone::{new_records, old_records};
 use crate::connection::{connected, told};
@@ -69,7 +70,9 @@ pub fn records_for<D: Disk + Drop>(
     ensures lost { (loss : Loss) → IsLossOf (image_of D.Disk files) loss → IfOk result (λ r. IsHonest over_files r → ⊥) }
     ensures told { NeverLies D.Disk → (D.Disk.is_usable files.log && D.Disk.is_usable files.db) ≡ true → (loss : Loss)
         → IsLossOf (image_of D.Disk files) loss → IsErrAnd result (TellsLoss loss) }
-    ensures broken { (D.Disk.is_usable files.log && D.Disk.is_usable files.db) ≡ false → result ≡ Err (StartFault.Unopened (OwnerFault.Open OpenFault.Broken)) }
+    ensures due { NeverLies D.Disk → IfErr result (TellsShown (image_of D.Disk files)) }
+    ensures broken { (D.Disk.is_usable files.log && D.Disk.is_usable files.db) ≡ false
+        → result ≡ Err (StartFault.Unopened (OwnerFault.Open OpenFault.Broken)) }
 {
     let owner = Owner { node, members };
     let before = files.tally();
@@ -81,13 +84,22 @@ pub fn records_for<D: Disk + Drop>(
     }
 }
 
-/// Records of nobody over the files, which hold what the files hold. They are refused as by `records_for`.
-fn unowned_records<D: Disk + Drop>(
+/// Records of nobody over the files, whatever was left of them by a crash. They hold what the files hold: one of the
+/// contents that the store of the records before might have left. Files of which a sync has failed are Broken. Files of
+/// which one lost something are refused before anything else is looked at.
+pub fn open_files<D: Disk + Drop>(
     alloc: Global,
     files: Files<D>,
 ) -> Result<SqlRecords<FileStore<D>>, StartFault>
-    ensures holds { IfOk result (λ r. IsHonest over_files r → (c : Content) × Holds (MayFind over_files r.owner r.held) c) }
+    ensures holds { IfOk result (λ r. IsHonest over_files r → (c : Content) × Holds (MayFind over_files r.owner r.held) c × IsFoundIn D.Disk files c) }
+    ensures owner { IfOk result (λ r. r.owner ≡ None) }
+    ensures sure { IfOk result (λ r. IsTrue (is_clean_in over_files r.held) → IsHonest over_files r) }
     ensures lost { (loss : Loss) → IsLossOf (image_of D.Disk files) loss → IfOk result (λ r. IsHonest over_files r → ⊥) }
+    ensures told { NeverLies D.Disk → (D.Disk.is_usable files.log && D.Disk.is_usable files.db) ≡ true → (loss : Loss)
+        → IsLossOf (image_of D.Disk files) loss → IsErrAnd result (TellsLoss loss) }
+    ensures due { NeverLies D.Disk → IfErr result (TellsShown (image_of D.Disk files)) }
+    ensures broken { (D.Disk.is_usable files.log && D.Disk.is_usable files.db) ≡ false
+        → result ≡ Err (StartFault.Unopened (OwnerFault.Open OpenFault.Broken)) }
 {
     let before = files.tally();
     let (conn, _tie) = connected(alloc, files)?;
@@ -115,6 +127,6 @@ impl<D: Disk + Drop> OpensRecords for Files<D> {
     }
 
     fn opened(self, alloc: Global) -> Result<SqlRecords<FileStore<D>>, StartFault> {
-        unowned_records(alloc, self)
+        open_files(alloc, self)
     }
 }

@@ -1,9 +1,9 @@
-use Rattle.std.proofs.Common.{rules, ◌≡◌, Result, Err, IsErrAnd, subst, sym}
+use Rattle.std.proofs.Common.{rules, ◌≡◌, Result, Err, IfErr, IsErrAnd, subst, sym}
 use Rattle.log_ties.specs.Ties.{IsToldOf}
 use Rattle.sqlite.specs.Files.{image_of}
-use Rattle.stored_nodes.specs.Lost.{TellsLoss}
+use Rattle.stored_nodes.specs.Lost.{TellsLoss, TellsShown}
 use Rattle.stored_nodes.specs.declared.start.StartFault.{StartFault}
-use Rattle.stored_nodes.proofs.Opened.{found_before}
+use Rattle.stored_nodes.proofs.Opened.{found_before, told_shown}
 use Rattle.stored_nodes.proofs.connection.connected.Goals as goal
 
 pub returns-in-Ok-clause-found : goal.returns-in-Ok-clause-found
@@ -27,3 +27,11 @@ returns-in_err-tie-clause-told g c never usable loss lost =
 pub returns-in-Ok-clause-copied : goal.returns-in-Ok-clause-copied
 returns-in-Ok-clause-copied g c clean tied =
     (subst (λ t. IsToldOf (image_of g.D.Disk c.args.files) t) tied (c.in_ok-tie.ensures.told (c.in-Ok.ensures.found clean).honest)).1
+
+pub returns-in-Err-clause-due : goal.returns-in-Err-clause-due
+returns-in-Err-clause-due g c never loss is = absurd (c.in-Err.ensures.no_loss loss is)
+
+pub returns-in_err-tie-clause-due : goal.returns-in_err-tie-clause-due
+returns-in_err-tie-clause-due g c never =
+    let is : c.from_residual.result ≡ Err c.in_err-tie.field-0.0 = search rules in
+    subst (λ (r : Result _ StartFault). IfErr r (TellsShown (image_of g.D.Disk c.args.files))) (sym is) (told_shown _ _ _ _ (c.in_err-tie.ensures.due (never _ _)))
