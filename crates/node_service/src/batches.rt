@@ -102,7 +102,7 @@ fn put_one<K: Keeper, O: Outbox>(
 }
 
 /// Tells something, and sends it out.
-fn tell<T: Told, O: Outbox>(alloc: Global, told: &T, output: &mut O) -> Result<(), Unwritten>
+pub fn tell<T: Told, O: Outbox>(alloc: Global, told: &T, output: &mut O) -> Result<(), Unwritten>
     ensures written { OnOk result (Appends (O.bytes_held output.old) (O.bytes_held output.new) (T.text told.now)) }
     ensures fails { IfErr result (λ why. FailsToTell O.Outbox (T.text told.now) why output.old output.new) }
 {

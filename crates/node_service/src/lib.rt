@@ -14,7 +14,7 @@ mod service;
 
 pub use actor::Actor;
 pub use asked::request_of;
-pub use batches::{BatchedEnd, serve_batched};
+pub use batches::{BatchedEnd, serve_batched, tell};
 pub use incoming::{Incoming, Input, Unreadable};
 pub use keeper::Keeper;
 pub use lines::Lines;

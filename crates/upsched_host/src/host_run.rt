@@ -1,26 +1,21 @@
 //! From the words to how the program ends.
 
-ghost use Rattle.std.specs.Prelude.{◌≡◌, ◌⊎◌, ◌↔◌, Err, IfErr, IsOk, MatchResult, OnOk};
-ghost use Rattle.std.specs.Io.KnownBytes.{Appends};
-ghost use Rattle.node_service.specs.Batched.{FailsToTell};
+ghost use Rattle.std.specs.Prelude.{◌≡◌, ◌⊎◌, ◌↔◌, Err, IsErrAnd, IsOk, MatchResult};
 ghost use Rattle.node_service.specs.declared.batches.BatchedEnd.TheVariants as ends;
-ghost use Rattle.host_service.specs.Texts.{host_text};
 ghost use Rattle.upsched_ends.specs.declared.status.Status.TheVariants.{Done, Faulted, NotUnderstood};
 ghost use Rattle.upsched_host.specs.Named.{IsNewServer, NameHost, Who as Named};
 ghost use Rattle.upsched_host.specs.Serving.{RunsHost};
+ghost use Rattle.upsched_node.specs.Ends.{IsOfInput};
 
 use crate::named::{HostWords, Who, named_host};
 use host_service::{HostReply, HostServer, serve_host};
 use hosts::PlainOpens;
 use node_lines::{Ahead, Unwritten};
-use node_service::{BatchedEnd, Lines, Outbox};
+use node_service::{BatchedEnd, Lines, Outbox, tell};
 use std::alloc::Global;
 use std::io::Write;
 use upsched_ends::{Fault, Status};
-use upsched_node::unwritten;
-
-/// Where lines come from, in what is told of a fault.
-pub const INPUT_NAME: &str = "standard input";
+use upsched_node::{unread, unwritten};
 
 /// What is told of how the lines ended: nothing where there are no more. In memory no commit fails.
 fn ended<'a>(end: BatchedEnd) -> Result<(), Fault<'a>>
@@ -28,22 +23,14 @@ fn ended<'a>(end: BatchedEnd) -> Result<(), Fault<'a>>
     ensures crashed { (result ≡ Err Fault.Crashed) ↔ ((end ≡ ends.Crashed) ⊎ (end ≡ ends.Uncommitted)) }
     ensures memory { end ≡ ends.Unwritten Unwritten.OutOfMemory → result ≡ Err Fault.Memory }
     ensures output { end ≡ ends.Unwritten Unwritten.Output → result ≡ Err Fault.Output }
+    ensures unread { (end ≡ ends.Unreadable) ⊎ (end ≡ ends.Spent) → IsErrAnd result IsOfInput }
 {
     match end {
         BatchedEnd::Input => Ok(()),
         BatchedEnd::Crashed | BatchedEnd::Uncommitted => Err(Fault::Crashed),
-        BatchedEnd::Unreadable | BatchedEnd::Spent => Err(Fault::Unreadable(INPUT_NAME)),
+        BatchedEnd::Unreadable | BatchedEnd::Spent => Err(unread()),
         BatchedEnd::Unwritten(why) => Err(unwritten(why)),
     }
-}
-
-/// Tells something, and sends it out.
-pub fn tell<O: Outbox>(alloc: Global, told: &HostReply, output: &mut O) -> Result<(), Unwritten>
-    ensures written { OnOk result (Appends (O.bytes_held output.old) (O.bytes_held output.new) (host_text told.now)) }
-    ensures fails { IfErr result (λ why. FailsToTell O.Outbox (host_text told.now) why output.old output.new) }
-{
-    output.put(alloc, told)?;
-    output.send_out()
 }
 
 /// A new host tells who it is, and then replies to each line that comes.

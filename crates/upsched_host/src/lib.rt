@@ -7,5 +7,5 @@ mod host_run;
 mod named;
 
 pub use folder_words::{FolderWords, HostStart};
-pub use host_run::{INPUT_NAME, host, tell};
+pub use host_run::host;
 pub use named::{HostWords, NO_PLACES, NoHost, PLACES_NOT_GIVEN, Who, named_who};

@@ -1,2 +1,4 @@
+pub mod Ends
+pub mod First
 pub mod Member
 pub mod Serving

@@ -6,5 +6,5 @@ mod node_run;
 mod serving;
 
 pub use member::member_of;
-pub use node_run::{NO_MEMBER, ended, node, unwritten};
+pub use node_run::{NO_MEMBER, ended, node, unread, unwritten};
 pub use serving::serve_member;

@@ -1,10 +1,11 @@
 //! `upsched node K --members M`: from the words to how the program ends.
 
-ghost use Rattle.std.specs.Prelude.{◌≡◌, ◌<◌, ◌↔◌, ℕ, Err, IsOk, MatchResult};
+ghost use Rattle.std.specs.Prelude.{◌≡◌, ◌⊎◌, ◌<◌, ◌↔◌, ℕ, Err, IsErrAnd, IsOk, MatchResult};
 ghost use Rattle.ballots.specs.Members.{member_count};
 ghost use Rattle.ballots.specs.declared.members.Members.{Members};
 ghost use Rattle.node_service.specs.declared.service.End.TheVariants as ends;
 ghost use Rattle.upsched_ends.specs.declared.status.Status.TheVariants.{Done, Faulted, NotUnderstood};
+ghost use Rattle.upsched_node.specs.Ends.{IsOfInput, write_fault};
 ghost use Rattle.upsched_node.specs.Member.{NamesMember};
 ghost use Rattle.upsched_node.specs.Serving.{IsNewSeat, RunsNode};
 
@@ -28,13 +29,19 @@ pub const NO_MEMBER: &str = "error: K is one of the M members, from 0 on, and M 
 
 /// What is told of a write that failed.
 pub fn unwritten<'a>(why: Unwritten) -> Fault<'a>
-    ensures memory { why ≡ Unwritten.OutOfMemory → result ≡ Fault.Memory }
-    ensures output { why ≡ Unwritten.Output → result ≡ Fault.Output }
+    ensures { result ≡ write_fault why }
 {
     match why {
         Unwritten::OutOfMemory => Fault::Memory,
         Unwritten::Output => Fault::Output,
     }
+}
+
+/// What is told of an input that failed, or that has more lines than a run may have.
+pub fn unread<'a>() -> Fault<'a>
+    ensures { IsOfInput result }
+{
+    Fault::Unreadable(INPUT_NAME)
 }
 
 /// What is told of how the lines ended: nothing where there are no more.
@@ -43,11 +50,12 @@ pub fn ended<'a>(end: End) -> Result<(), Fault<'a>>
     ensures crashed { (result ≡ Err Fault.Crashed) ↔ (end ≡ ends.Crashed) }
     ensures memory { end ≡ ends.Unwritten Unwritten.OutOfMemory → result ≡ Err Fault.Memory }
     ensures output { end ≡ ends.Unwritten Unwritten.Output → result ≡ Err Fault.Output }
+    ensures unread { (end ≡ ends.Unreadable) ⊎ (end ≡ ends.Spent) → IsErrAnd result IsOfInput }
 {
     match end {
         End::Input => Ok(()),
         End::Crashed => Err(Fault::Crashed),
-        End::Unreadable | End::Spent => Err(Fault::Unreadable(INPUT_NAME)),
+        End::Unreadable | End::Spent => Err(unread()),
         End::Unwritten(why) => Err(unwritten(why)),
     }
 }

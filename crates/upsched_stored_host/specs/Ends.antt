@@ -1,29 +1,17 @@
 -- How a host over a folder ended, and what is told of it.
-use Rattle.std.specs.Prelude.{◌≡◌, ℕ, Bool, false, codes, Result, Ok, Err}
-use Rattle.node_lines.specs.declared.writing.Unwritten.{Unwritten}
-use Rattle.node_lines.specs.declared.writing.Unwritten.TheVariants as unwritten
+use Rattle.std.specs.Prelude.{◌≡◌, ℕ, Bool, false, Result, Ok, Err}
 use Rattle.node_service.specs.declared.batches.BatchedEnd.{BatchedEnd}
 use Rattle.node_service.specs.declared.batches.BatchedEnd.TheVariants as ends
 use Rattle.upsched_ends.specs.declared.fault.Fault.{Fault}
-use Rattle.upsched_ends.specs.declared.fault.Fault.TheVariants.{Memory, Output, Unreadable}
 use Rattle.upsched_ends.specs.declared.status.Status.{Status}
 use Rattle.upsched_ends.specs.declared.status.Status.TheVariants.{Done, Faulted}
+use Rattle.upsched_node.specs.Ends.{IsOfInput, write_fault}
 use Rattle.upsched_stored_host.specs.declared.stopped.Stopped.{Stopped}
 use Rattle.upsched_stored_host.specs.declared.stopped.Stopped.TheVariants.{Crashed, Ended, Unstarted}
 
 -- nothing, or why it ended before its input did, with this of a crash
 abbrev pub Told : Type 0 → Type 0
 Told C = Result (Unit {0}) (Stopped C)
-
--- what is told of a text that couldn't be written
-abbrev pub write_fault : Unwritten → Fault
-write_fault unwritten.OutOfMemory = Memory
-write_fault unwritten.Output = Output
-
--- what is told of an input that failed, or that has more lines than a run may have
-abbrev pub IsOfInput : Fault → Type 0
-IsOfInput (Unreadable name) = name.now ≡ codes "standard input"
-IsOfInput other = ⊥
 
 -- so the end of lines is told: nothing where there are no more. Where a node is down, its epoch is told, and this of it
 abbrev pub TellsEnd : {C : Type 0} → (ℕ → C → Type 0) → BatchedEnd → Told C → Type 0

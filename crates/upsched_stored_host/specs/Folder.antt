@@ -32,8 +32,10 @@ use Rattle.stored_hosts.specs.declared.folder.Folder.{Ghosts as Folders}
 use Rattle.stored_hosts.specs.declared.names.HostFile.{HostFile}
 use Rattle.upsched_host.specs.declared.folder_words.HostStart.{HostStart}
 use Rattle.upsched_host.specs.declared.folder_words.HostStart.TheVariants.{Join, Left, New}
-use Rattle.upsched_stored_host.specs.Ends.{TellsEnd, Told, write_fault}
-use Rattle.upsched_stored_host.specs.Serving.{HasServed, TellsAndServes, TellsFirst, Untouched, WaitsAndServes}
+use Rattle.upsched_node.specs.Ends.{write_fault}
+use Rattle.upsched_node.specs.First.{TellsFirst, Untouched}
+use Rattle.upsched_stored_host.specs.Ends.{TellsEnd, Told}
+use Rattle.upsched_stored_host.specs.Serving.{HasServed, TellsAndServes, WaitsAndServes}
 use Rattle.upsched_stored_host.specs.declared.folder_run.HostFolder.{HostFolder}
 use Rattle.upsched_stored_host.specs.declared.stopped.Stopped.TheVariants.{Ended, Unstarted}
 
@@ -92,7 +94,8 @@ module _ {F P D W N I Q : Type 0} (folders : Folders F P) (bases : Bases D W) (s
   abbrev pub Serves : ℕ → Members → HostStart → Told N → I → Q → I → Q → Type 0
   Serves id members New told i o i' o' =
       (old new : HostServer (FolderOpens F D) N g h) × (end : BatchedEnd) × IsNewHost folders bases stores given (host_of old)
-      × TellsFirst output (begins_text id members given.places Fresh) (λ why. end ≡ ends.Unwritten why) i o i' o' (λ sent. HasServed input output old end new i sent i' o')
+      × TellsFirst output (begins_text id members given.places Fresh) (λ why. end ≡ ends.Unwritten why) i o i' o'
+      (λ sent. HasServed input output old end new i sent i' o')
       × TellsEnd (IsDownNode (host_of new)) end told
   Serves id members Left told i o i' o' =
       (old new : HostServer (FolderOpens F D) N g h) × (end : BatchedEnd) × IsLeftHost folders bases stores given (host_of old)

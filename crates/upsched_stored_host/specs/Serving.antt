@@ -1,6 +1,5 @@
 -- What a host tells first, and does with the lines that it reads.
 use Rattle.std.specs.Prelude.{◌≡◌, ◌⊎◌, ◌-◌, ℕ, List, drop, length, Err}
-use Rattle.std.specs.Io.KnownBytes.{Appends}
 use Rattle.ballots.specs.declared.members.Members.{Members}
 use Rattle.host_service.specs.Replying.{host_keeper, host_of}
 use Rattle.host_service.specs.Serving.{IfAllTold, NeverLies, ServesFrom}
@@ -17,14 +16,14 @@ use Rattle.hosts.specs.Views.{HostView}
 use Rattle.hosts.specs.declared.host.Host.{Host}
 use Rattle.hosts.specs.declared.opens.Opens.{Ghosts}
 use Rattle.node.specs.declared.node.Node.{Ghosts as Nodes}
-use Rattle.node_lines.specs.declared.writing.Unwritten.{Unwritten}
 use Rattle.node_lines.specs.declared.writing.Unwritten.TheVariants.{OutOfMemory}
-use Rattle.node_service.specs.Batched.{EndsBatchedBy, FailsToTell}
+use Rattle.node_service.specs.Batched.{EndsBatchedBy}
 use Rattle.node_service.specs.declared.batches.BatchedEnd.{BatchedEnd}
 use Rattle.node_service.specs.declared.batches.BatchedEnd.TheVariants as ends
 use Rattle.node_service.specs.declared.lines.Lines.{Ghosts as Inputs}
 use Rattle.node_service.specs.declared.outbox.Outbox.{Ghosts as Outputs}
 use Rattle.upsched_ends.specs.declared.fault.Fault.TheVariants.{Crashed}
+use Rattle.upsched_node.specs.First.{TellsFirst, Untouched}
 use Rattle.upsched_stored_host.specs.Ends.{TellsEnd, Told}
 use Rattle.upsched_stored_host.specs.declared.stopped.Stopped.TheVariants.{Ended}
 
@@ -59,25 +58,17 @@ TellsUnjoined ends.Uncommitted told = told ≡ Err (Ended Crashed)
 TellsUnjoined other told = TellsEnd (λ e of. ⊥) other told
 
 -- a host waited for a state with what opens its nodes, and served once it had one; or the lines ended before
-abbrev pub WaitsAndServes : {O N I P : Type 0} → (g : Ghosts O N) (h : Nodes N) → Inputs I → Outputs P → (opens : O) (places : ℕ) → Told N → I → P → I → P → Type 0
+abbrev pub WaitsAndServes : {O N I P : Type 0} → (g : Ghosts O N) (h : Nodes N) → Inputs I → Outputs P → (opens : O) (places : ℕ)
+    → Told N → I → P → I → P → Type 0
 WaitsAndServes {O} {N} {I} {P} g h input output opens places told i o i' o' =
     ((old new : HostServer O N g h) × (end : BatchedEnd) × (j : I) × (p : P) × HasWaited input output opens places (host_of old) i o j p
     × HasServed input output old end new j p i' o' × TellsEnd (IsDownNode (host_of new)) end told)
     ⊎ ((old new : WaitingHost O N g h) × (end : BatchedEnd) × IsWaiting old opens places
     × EndsBatchedBy waiting_keeper host_text input output end old i o new i' o' × TellsUnjoined end told)
 
--- the first line was told, and then this; or it couldn't be, for a cause of which this holds
-abbrev pub TellsFirst : {I P : Type 0} → Outputs P → List ℕ → (Unwritten → Type 0) → I → P → I → P → (P → Type 0) → Type 0
-TellsFirst {I} {P} output text Fails i o i' o' Then =
-    ((sent : P) × Appends (output.bytes_held o) (output.bytes_held sent) text × Then sent)
-    ⊎ ((why : Unwritten) × FailsToTell output text why o o' × (i' ≡ i) × Fails why)
-
--- nothing was read or written
-abbrev pub Untouched : {I P : Type 0} → I → P → I → P → Type 0
-Untouched i o i' o' = (i' ≡ i) × (o' ≡ o)
-
 -- a host that goes on told its epoch and its digest, and served; or it had no memory for the digest
-abbrev pub TellsAndServes : {O N I P : Type 0} {g : Ghosts O N} {h : Nodes N} → Inputs I → Outputs P → ℕ → Members → (places : ℕ) → HostServer O N g h → BatchedEnd → HostServer O N g h → I → P → I → P → Type 0
+abbrev pub TellsAndServes : {O N I P : Type 0} {g : Ghosts O N} {h : Nodes N} → Inputs I → Outputs P → ℕ → Members → (places : ℕ)
+    → HostServer O N g h → BatchedEnd → HostServer O N g h → I → P → I → P → Type 0
 TellsAndServes input output id members places old end new i o i' o' =
     ((digest : List ℕ) × IsDigestOf (host_of old) digest
     × TellsFirst output (begins_text id members places (Restarted (number_of (host_of old)) digest)) (λ why. end ≡ ends.Unwritten why) i o i' o'

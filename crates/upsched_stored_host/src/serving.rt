@@ -9,8 +9,10 @@ ghost use Rattle.host_service.specs.Waiting.{IsWaiting};
 ghost use Rattle.host_service.specs.declared.reply.Beginning.TheVariants.{Waits};
 ghost use Rattle.hosts.specs.Hosts.{are_up};
 ghost use Rattle.node_service.specs.Batched.{FailsToTell};
-ghost use Rattle.upsched_stored_host.specs.Ends.{IsEndOf, write_fault};
-ghost use Rattle.upsched_stored_host.specs.Serving.{CanServe, HasServed, TellsAndServes, TellsFirst, TellsOf, WaitsAndServes};
+ghost use Rattle.upsched_node.specs.Ends.{write_fault};
+ghost use Rattle.upsched_node.specs.First.{TellsFirst};
+ghost use Rattle.upsched_stored_host.specs.Ends.{IsEndOf};
+ghost use Rattle.upsched_stored_host.specs.Serving.{CanServe, HasServed, TellsAndServes, TellsOf, WaitsAndServes};
 ghost use Rattle.upsched_stored_host.specs.declared.stopped.Stopped.TheVariants.{Ended};
 
 use crate::stopped::{Stopped, ended, not_written, unjoined};
@@ -18,9 +20,9 @@ use ballots::Bytes;
 use host_service::{Beginning, HostReply, HostServer, WaitingHost, serve_host, wait_for_state};
 use hosts::{Host, Opens};
 use node_lines::{Ahead, Unwritten};
-use node_service::{BatchedEnd, Lines, Outbox};
+use node_service::{BatchedEnd, Lines, Outbox, tell};
 use std::alloc::{AllocError, Global};
-use upsched_host::{Who, tell};
+use upsched_host::Who;
 
 /// How many bytes the sum of a state has.
 const SUM_LENGTH: usize = 8;

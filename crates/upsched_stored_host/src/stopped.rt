@@ -4,7 +4,8 @@ ghost use Rattle.std.specs.Prelude.{◌≡◌, ℕ, false};
 ghost use Rattle.host_service.specs.Replying.{host_of};
 ghost use Rattle.hosts.specs.Hosts.{are_up};
 ghost use Rattle.hosts.specs.Keeping.{IsDownNode};
-ghost use Rattle.upsched_stored_host.specs.Ends.{IsEndOf, IsOfInput, TellsEnd, write_fault};
+ghost use Rattle.upsched_node.specs.Ends.{write_fault};
+ghost use Rattle.upsched_stored_host.specs.Ends.{IsEndOf, TellsEnd};
 ghost use Rattle.upsched_stored_host.specs.Serving.{TellsUnjoined};
 ghost use Rattle.upsched_stored_host.specs.declared.stopped.Stopped.TheVariants.{Crashed};
 
@@ -14,7 +15,7 @@ use hosts::{Host, Opens};
 use node_lines::Unwritten;
 use node_service::BatchedEnd;
 use upsched_ends::Fault;
-use upsched_host::INPUT_NAME;
+use upsched_node::{unread, unwritten};
 
 /// Why a host over a folder ended before its input did.
 #[derive(Drop)]
@@ -26,21 +27,11 @@ pub enum Stopped<'a, C> {
     Ended(Fault<'a>),
 }
 
-/// What is told of an input that failed, or that has more lines than a run may have.
-fn unread<'a>() -> Fault<'a>
-    ensures { IsOfInput result }
-{
-    Fault::Unreadable(INPUT_NAME)
-}
-
 /// What is told of a write that failed.
 pub(crate) fn not_written<'a, C>(why: Unwritten) -> Stopped<'a, C>
     ensures { result ≡ Stopped.Ended (write_fault why) }
 {
-    Stopped::Ended(match why {
-        Unwritten::OutOfMemory => Fault::Memory,
-        Unwritten::Output => Fault::Output,
-    })
+    Stopped::Ended(unwritten(why))
 }
 
 /// What is told of a host of which a node is down: that node.

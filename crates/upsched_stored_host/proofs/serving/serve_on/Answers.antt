@@ -3,7 +3,8 @@ use Rattle.host_service.specs.Replying.{host_of}
 use Rattle.host_service.specs.Texts.{begins_text}
 use Rattle.host_service.specs.declared.reply.Beginning.{Beginning}
 use Rattle.node_service.specs.declared.batches.BatchedEnd.TheVariants as ends
-use Rattle.upsched_stored_host.specs.Serving.{HasServed, TellsFirst}
+use Rattle.upsched_node.specs.First.{TellsFirst}
+use Rattle.upsched_stored_host.specs.Serving.{HasServed}
 use Rattle.upsched_stored_host.proofs.Served.{of_digest}
 use Rattle.upsched_stored_host.proofs.serving.serve_on.Goals as goal
 
