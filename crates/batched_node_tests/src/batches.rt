@@ -64,20 +64,37 @@ fn new_node(alloc: Global) -> PlainNode
     SchedNode::new(alloc, id, Members::Three, PlainRecords::new(alloc))
 }
 
-/// What is replied where so many bytes are read ahead, how that ends, what was stored, and in how many commits.
+/// What is replied to the lines one by one, and how that ends.
+fn replied_plainly(alloc: Global) -> (Vec<u8>, End) {
+    let mut seat = Seat::new(new_node(alloc));
+    let mut output = Vec::new(alloc);
+    let end = serve(alloc, &mut seat, &mut LINES.as_bytes(), &mut output);
+    (output, end)
+}
+
+/// What is replied, how that ended, and what was stored.
+#[derive(Drop)]
+struct Served {
+    output: Vec<u8>,
+    end: BatchedEnd,
+    stored: Counted,
+}
+
+/// What is replied to the lines where so many bytes are read ahead.
 fn replied(
-    rt: &HostRuntime,
+    alloc: Global,
     capacity: usize,
     fails: Option<(u64, RecordsFault)>,
-) -> Result<(Vec<u8>, BatchedEnd, Vec<WriteBytes>, u64), Fail> {
-    let alloc = rt.alloc();
-    let mut seat = BatchedSeat::of(alloc, new_node(alloc), Counted::new(alloc, fails))?;
+) -> Result<Served, Fail> {
     let mut input = BufReader::with_capacity(alloc, capacity, LINES.as_bytes())?;
     let mut output = Vec::new(alloc);
+    let mut seat = BatchedSeat::of(alloc, new_node(alloc), Counted::new(alloc, fails))?;
     let end = serve_batched_member(alloc, &mut seat, &mut input, &mut output);
-    let stored = seat.store();
-    let writes = Vec::from_slice(alloc, &stored.writes)?;
-    Ok((output, end, writes, stored.commits))
+    Ok(Served {
+        output,
+        end,
+        stored: seat.into_store(),
+    })
 }
 
 fn are_same(writes: &[WriteBytes], others: &[WriteBytes]) -> bool {
@@ -92,14 +109,20 @@ fn are_same(writes: &[WriteBytes], others: &[WriteBytes]) -> bool {
     true
 }
 
+/// Whether this is replied up to the input's end, and these four writes are stored.
+fn is_alike(found: &Served, output: &[u8], writes: &[WriteBytes]) -> bool {
+    found.end == BatchedEnd::Input
+        && found.output.as_slice() == output
+        && writes.len() == 4
+        && are_same(&found.stored.writes, writes)
+}
+
 #[test]
 fn lines_are_served_alike(rt: HostRuntime) -> Result<(), Fail> {
     let alloc = rt.alloc();
-    let mut seat = Seat::new(new_node(alloc));
-    let mut plain = Vec::new(alloc);
-    let end = serve(alloc, &mut seat, &mut LINES.as_bytes(), &mut plain);
+    let (plain, end) = replied_plainly(alloc);
     assert_eq!(rt; end, End::Input);
-    let (_output, _end, all, _commits) = replied(&rt, 65536, None)?;
+    let whole = replied(alloc, 65536, None)?;
     for (capacity, fewest, most) in [
         (65536, 1, 1),
         (1, 4, 4),
@@ -107,27 +130,30 @@ fn lines_are_served_alike(rt: HostRuntime) -> Result<(), Fail> {
         (100, 1, 4),
         (250, 1, 4),
     ] {
-        let (output, end, writes, commits) = replied(&rt, capacity, None)?;
-        assert_eq!(rt; end, BatchedEnd::Input, "at {capacity}");
-        assert_eq!(rt; output.as_slice(), plain.as_slice(), "at {capacity}");
-        assert_eq!(rt; writes.len(), 4, "at {capacity}");
-        assert!(rt; are_same(&writes, &all), "at {capacity}");
+        let found = replied(alloc, capacity, None)?;
+        let commits = found.stored.commits;
+        assert!(rt;
+            is_alike(&found, &plain, &whole.stored.writes),
+            "at {capacity}"
+        );
         assert!(rt; fewest <= commits && commits <= most, "at {capacity}");
     }
     Ok(())
 }
 
+/// Whether so many commits were made, each of one write, this was replied up to one that failed, and then this told.
+fn is_told(found: &Served, commits: u64, before: &str, told: &str) -> bool {
+    found.end == BatchedEnd::Uncommitted
+        && found.stored.commits == commits
+        && found.stored.writes.len() as u64 == commits
+        && found.output.as_slice().strip_prefix(before.as_bytes()) == Some(told.as_bytes())
+}
+
 #[test]
 fn a_commit_that_fails_is_told(rt: HostRuntime) -> Result<(), Fail> {
     for (capacity, number, fault, before, told) in FAILURES {
-        let (output, end, writes, commits) = replied(&rt, capacity, Some((number, fault)))?;
-        assert_eq!(rt; end, BatchedEnd::Uncommitted, "at {told}");
-        assert_eq!(rt;
-            output.as_slice(),
-            format!(in rt.alloc(); "{before}{told}")?.as_bytes()
-        );
-        assert_eq!(rt; commits, number);
-        assert_eq!(rt; writes.len() as u64, number);
+        let found = replied(rt.alloc(), capacity, Some((number, fault)))?;
+        assert!(rt; is_told(&found, number, before, told), "at {told}");
     }
     Ok(())
 }

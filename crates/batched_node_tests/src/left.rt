@@ -91,17 +91,22 @@ impl Keeper for Failing {
     }
 }
 
+/// What is replied to these lines, and how that ends.
+fn replied(alloc: Global, lines: &str) -> Result<(Vec<u8>, BatchedEnd), Fail> {
+    let mut input = BufReader::new(alloc, lines.as_bytes())?;
+    let mut output = Vec::new(alloc);
+    let end = serve_batched(alloc, &mut Failing { is_up: true }, &mut input, &mut output);
+    Ok((output, end))
+}
+
 #[test]
 fn replies_that_may_be_told_go_out_before_the_fault(rt: HostRuntime) -> Result<(), Fail> {
-    let alloc = rt.alloc();
     for (lines, told) in [
         ("1\n3\n", "1\n3\n5\n"),
         ("1\n3\n7\n2\n", "1\n3\n5\n"),
         ("5\n1\n", "5\n"),
     ] {
-        let mut input = BufReader::new(alloc, lines.as_bytes())?;
-        let mut output = Vec::new(alloc);
-        let end = serve_batched(alloc, &mut Failing { is_up: true }, &mut input, &mut output);
+        let (output, end) = replied(rt.alloc(), lines)?;
         assert_eq!(rt; end, BatchedEnd::Uncommitted, "at {told}");
         assert_eq!(rt; output.as_slice(), told.as_bytes(), "at {told}");
     }

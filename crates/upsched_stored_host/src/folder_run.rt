@@ -9,7 +9,7 @@ use crate::serving::{serve_from, serve_on, serve_once_joined};
 use crate::stopped::{Stopped, ended};
 use ballots::{Members, NodeId};
 use folder_hosts::{Databases, FolderOpens, new_host, resumed_host, waiting};
-use host_service::{Beginning, HostServer, WaitingHost};
+use host_service::{Beginning, HostServer};
 use hosts::Opens;
 use kept_node::KeptNode;
 use node::Node;
@@ -93,10 +93,7 @@ fn serve_joining<'a, F: Folder + Drop, D: Databases, I: Lines + Ahead, O: Outbox
     let (id, members) = given.member();
     let who = (id, members, given.places);
     match waiting(alloc, given.folder, given.databases) {
-        Ok(opens) => {
-            let mut waiting = WaitingHost::new(alloc, opens, given.places);
-            serve_once_joined(alloc, &mut waiting, who, input, output)
-        }
+        Ok(opens) => serve_once_joined(alloc, opens, who, input, output),
         Err(fault) => Err(Stopped::Unstarted(fault)),
     }
 }

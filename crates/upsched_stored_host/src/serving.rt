@@ -132,20 +132,19 @@ fn serve_behind_state<'a, P: Opens, I: Lines + Ahead, O: Outbox>(
 /// It tells that it waits for a state, and does, and goes on behind that.
 pub(crate) fn serve_once_joined<'a, P: Opens, I: Lines + Ahead, O: Outbox>(
     alloc: Global,
-    waiting: &mut WaitingHost<P>,
+    opens: P,
     who: Who,
     input: &mut I,
     output: &mut O,
 ) -> Result<(), Stopped<'a, P::Node>>
-    requires waits { (opens : P) × (places : ℕ) × IsWaiting waiting.old opens places }
-    requires never { NeverLie P.Node.Node }
-    ensures { (opens : P) (places : ℕ) → IsWaiting waiting.old opens places
-        → TellsFirst O.Outbox (begins_text who.0 who.1 who.2 Waits) (λ why. result ≡ Err (Ended (write_fault why)))
+    requires { NeverLie P.Node.Node }
+    ensures { TellsFirst O.Outbox (begins_text who.0 who.1 who.2 Waits) (λ why. result ≡ Err (Ended (write_fault why)))
         input.old output.old input.new output.new
-        (λ sent. WaitsAndServes P.Opens P.Node.Node I.Lines O.Outbox opens places result input.old sent input.new output.new) }
+        (λ sent. WaitsAndServes P.Opens P.Node.Node I.Lines O.Outbox opens who.2 result input.old sent input.new output.new) }
 {
+    let mut waiting = WaitingHost::new(alloc, opens, who.2);
     match tell_first(alloc, who, Beginning::Waits, output) {
-        Ok(()) => serve_behind_state(alloc, waiting, input, output),
+        Ok(()) => serve_behind_state(alloc, &mut waiting, input, output),
         Err(why) => Err(not_written(why)),
     }
 }

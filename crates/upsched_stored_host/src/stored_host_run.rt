@@ -12,6 +12,7 @@ ghost use Rattle.upsched_stored_host.specs.Running.{RunsAt};
 use crate::fault_lines::print_stopped;
 use crate::folder_run::serve_over;
 use crate::stopped::Stopped;
+use acceptor_store::SqlRecords;
 use folder_hosts::{Databases, DatabasesAt, FolderOpens};
 use hosts::Opens;
 use kept_node::{KeptNode, WriteStore};
@@ -28,10 +29,10 @@ use upsched_host::{FolderWords, HostWords, Who, named_who};
 use upsched_store::{CrashCause, crash_of};
 
 /// What is told of a host, with the cause of a crash in place of its node: the node's records tell it, and are given up.
-fn with_cause<'a>(
-    told: Result<(), Stopped<'a, KeptNode<FileRecords>>>,
+fn with_cause<'a, S: CountsRefusals>(
+    told: Result<(), Stopped<'a, KeptNode<SqlRecords<S>>>>,
 ) -> Result<(), Stopped<'a, CrashCause>>
-    ensures { TellsCauses (λ node cause. TellsCause ⟦<FileStore<File> as CountsRefusals>⟧.refusals node.noted.store cause) told.entry result }
+    ensures { TellsCauses (λ node cause. TellsCause S.refusals node.noted.store cause) told.entry result }
 {
     match told {
         Ok(()) => Ok(()),

@@ -2,11 +2,8 @@ use Rattle.std.proofs.Common.{◌≡◌, inl, inr, refl, sym, subst}
 use Rattle.folder_hosts.specs.declared.opens.FolderOpens.{FolderOpens}
 use Rattle.upsched_stored_host.proofs.folder_run.serve_joining.Goals as goal
 
-pub serve_once_joined-requires-clause-waits : goal.serve_once_joined-requires-clause-waits
-serve_once_joined-requires-clause-waits g c = (c.in-Ok.opens, c.args.given.places, c.new-waiting.ensures)
-
-pub serve_once_joined-requires-clause-never : goal.serve_once_joined-requires-clause-never
-serve_once_joined-requires-clause-never g c = λ node. refl
+pub serve_once_joined-requires : goal.serve_once_joined-requires
+serve_once_joined-requires g c = λ node. refl
 
 pub returns-in-Ok : goal.returns-in-Ok
 returns-in-Ok g c = record {
@@ -20,7 +17,7 @@ returns-in-Ok g c = record {
       databases = subst (λ (o : FolderOpens g.row.F.Denot g.row.D.Denot). o.databases ≡ c.args.given.databases) (sym c.in-Ok.ensures.waits.0) refl;
       fresh = c.in-Ok.ensures.waits.1;
     },
-    c.serve_once_joined.ensures c.in-Ok.opens c.args.given.places c.new-waiting.ensures,
+    c.serve_once_joined.ensures,
   );
 }
 

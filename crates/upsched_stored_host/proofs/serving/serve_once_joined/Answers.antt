@@ -1,8 +1,8 @@
-use Rattle.std.proofs.Common.{ap, inl, inr, refl, Err}
+use Rattle.std.proofs.Common.{inl}
 use Rattle.upsched_stored_host.proofs.serving.serve_once_joined.Goals as goal
 
-pub returns-in-Ok : goal.returns-in-Ok
-returns-in-Ok g c = λ opens places is. inl (c.tell_first.new.output, c.in-Ok.ensures.written, c.serve_behind_state.ensures opens places is)
+pub serve_behind_state-requires-clause-waits : goal.serve_behind_state-requires-clause-waits
+serve_behind_state-requires-clause-waits g c = (c.args.opens, c.args.who.2, c.new-waiting.ensures)
 
-pub returns-in-Err : goal.returns-in-Err
-returns-in-Err g c = λ opens places is. inr (c.in-Err.why, c.in-Err.ensures.fails, refl, ap (λ s. Err s) c.not_written.ensures)
+pub returns-in-Ok : goal.returns-in-Ok
+returns-in-Ok g c = inl (c.tell_first.new.output, c.in-Ok.ensures.written, c.serve_behind_state.ensures c.args.opens c.args.who.2 c.new-waiting.ensures)
