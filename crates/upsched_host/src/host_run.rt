@@ -14,6 +14,7 @@ use node_lines::{Ahead, Unwritten};
 use node_service::{BatchedEnd, Lines, Outbox, tell};
 use std::alloc::Global;
 use std::io::Write;
+use std::mem;
 use upsched_ends::{Fault, Status};
 use upsched_node::{unread, unwritten};
 
@@ -84,12 +85,15 @@ pub fn host<I: Lines + Ahead, O: Outbox, E: Write>(
     ensures unnamed { ((who : Named) → ¬ NameHost words.now who) → (result ≡ NotUnderstood) × (input.new ≡ input.old) × (output.new ≡ output.old) }
     ensures quiet { result ≡ Done → errors.new ≡ errors.old }
 {
-    let (who, mut server) = match named_host(alloc, words) {
-        Ok(new) => new,
+    match named_host(alloc, words) {
+        Ok((who, mut server)) => {
+            let status = run_new(alloc, who, &mut server, input, output, errors);
+            mem::drop(server);
+            status
+        }
         Err(why) => {
             let _ = writeln!(errors, "{}", why.line());
-            return Status::NotUnderstood;
+            Status::NotUnderstood
         }
-    };
-    run_new(alloc, who, &mut server, input, output, errors)
+    }
 }
