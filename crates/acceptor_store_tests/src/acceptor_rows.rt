@@ -1,5 +1,5 @@
 use crate::files::{Stopped, stopping};
-use crate::uses::{OwnedUse, ballot, number, owned_in, place, value};
+use crate::uses::{OwnedUse, ballot, number, owned_in, place, put_vote, value};
 use acceptor::{Accepted, Prepared, Records, RecordsFault, accept, prepare};
 use ballots::{Place, Votes};
 use std::alloc::{AllocError, Global};
@@ -43,8 +43,9 @@ fn accepted<R: Records>(
     number: u64,
     byte: u8,
 ) -> Result<String, Fail> {
-    let value = value(alloc, &[byte])?;
-    let answer = accept(records, ballot(number)?, place(1)?, value)?;
+    let ballot = ballot(number)?;
+    let first = place(1)?;
+    let answer = accept(records, ballot, first, value(alloc, &[byte])?)?;
     Ok(accepted_text(alloc, &answer)?)
 }
 
@@ -81,12 +82,6 @@ fn are_answered<R: Records>(alloc: Global, records: &mut R) -> Result<bool, Fail
         }
     }
     Ok(true)
-}
-
-/// Writes a vote of a place and a ballot, for a byte.
-fn put_vote<R: Records>(alloc: Global, records: &mut R, vote: (u64, u64, u8)) -> Result<(), Fail> {
-    let value = value(alloc, &[vote.2])?;
-    Ok(records.put_vote(place(vote.0)?, ballot(vote.1)?, &value)?)
 }
 
 fn write<R: Records>(alloc: Global, records: &mut R) -> Result<(), Fail> {

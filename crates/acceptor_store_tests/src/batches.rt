@@ -4,7 +4,7 @@
 use crate::files::{Bodies, FOUND, Stopped, found, is_again, left_behind, stopping};
 use crate::slips::slipping;
 use crate::uses::{
-    ReadsContent, StoreUse, Way, answer_in, ballot, content, number, place, used_files, value,
+    ReadsContent, StoreUse, Way, answer_in, ballot, content, number, place, put_vote, used_files,
 };
 use acceptor::{Records, RecordsFault};
 use acceptor_store::SqlRecords;
@@ -271,21 +271,24 @@ fn whole<R: Records>(alloc: Global, records: &mut R) -> Result<String, Fail> {
 
 /// The promised ballot once all votes are in the lowest one: that of the promised row.
 fn row_of<R: Records>(alloc: Global, records: &mut R) -> Result<u64, Fail> {
-    let low = ballot(8)?;
-    let value = value(alloc, &[1])?;
-    records.put_vote(place(1)?, low, &value)?;
-    records.put_vote(place(2)?, low, &value)?;
+    put_vote(alloc, records, (1, 8, 1))?;
+    put_vote(alloc, records, (2, 8, 1))?;
     Ok(number(records.promised()?))
 }
 
-/// What records that were copied hold, and their promised row.
+/// What the records hold, and their promised row.
+fn whole_and_row<R: Records>(alloc: Global, records: &mut R) -> Result<(String, u64), Fail> {
+    let text = whole(alloc, records)?;
+    Ok((text, row_of(alloc, records)?))
+}
+
+/// The same of records that were copied.
 fn copy_of<S: OpensAnew>(
     alloc: Global,
     records: &mut SqlRecords<S>,
 ) -> Result<(String, u64), Fail> {
     let mut copy = records.copied()?;
-    let text = whole(alloc, &mut copy)?;
-    Ok((text, row_of(alloc, &mut copy)?))
+    whole_and_row(alloc, &mut copy)
 }
 
 /// Makes the six writes, and copies the records.

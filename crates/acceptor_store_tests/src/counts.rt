@@ -7,7 +7,7 @@ use crate::kinds::{TellsKinds, stops};
 use crate::owners::{HELD, SECOND, THIRD, is_held};
 use crate::uses::{
     Opens, ReadsContent, RecordsUse, StoreUse, Way, answer_in, ballot, bodies_after, content,
-    found_after, place, used_files, value,
+    found_after, place, put_vote, used_files, value,
 };
 use acceptor::{Records, RecordsFault};
 use acceptor_store::SqlRecords;
@@ -63,11 +63,11 @@ impl RecordsUse for WritesFour {
     type Answer = ();
 
     fn use_records<R: Records>(self, alloc: Global, records: &mut R) -> Result<(), Fail> {
-        let value = value(alloc, &[65])?;
         records.put_tried(ballot(17)?)?;
         records.put_promised(ballot(17)?)?;
-        records.put_vote(place(1)?, ballot(17)?, &value)?;
-        Ok(records.put_learned(place(1)?, &value)?)
+        put_vote(alloc, records, (1, 17, 65))?;
+        let first = place(1)?;
+        Ok(records.put_learned(first, &value(alloc, &[65])?)?)
     }
 }
 

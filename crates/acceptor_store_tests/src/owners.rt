@@ -192,11 +192,9 @@ fn other(node: u8, members: u8, is_same_node: bool) -> Result<OwnerFault, Fail> 
 #[test]
 fn another_owner_is_named(rt: HostRuntime) -> Result<(), Fail> {
     for (text, node, members, is_same_node) in OTHERS {
+        let wanted = other(node, members, is_same_node)?;
         let found = fault_after(rt.alloc(), &[SECOND, THIRD, text], Way::Old)?;
-        assert!(rt;
-            found == Some(other(node, members, is_same_node)?),
-            "{text}: {found:?}"
-        );
+        assert!(rt; found == Some(wanted), "{text}: {found:?}");
     }
     Ok(())
 }

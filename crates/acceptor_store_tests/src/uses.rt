@@ -327,6 +327,18 @@ pub fn ballot(number: u64) -> Result<Ballot, Fail> {
     Ok(Ballot::new(number).ok_or("a ballot")?)
 }
 
+/// Writes a vote of a place and a ballot, for a byte.
+pub fn put_vote<R: Records>(
+    alloc: Global,
+    records: &mut R,
+    vote: (u64, u64, u8),
+) -> Result<(), Fail> {
+    let place = place(vote.0)?;
+    let ballot = ballot(vote.1)?;
+    let value = value(alloc, &[vote.2])?;
+    Ok(records.put_vote(place, ballot, &value)?)
+}
+
 pub fn number(ballot: Option<Ballot>) -> u64 {
     match ballot {
         Some(ballot) => ballot.number(),

@@ -367,13 +367,19 @@ fn maps_after_a_change(rt: HostRuntime) -> Result<(), Fail> {
     Ok(())
 }
 
-/// Whether the last step of a new machine gives this.
-fn ends_so(alloc: Global, ucd: u8, steps: &[Step], told: Told) -> Result<bool, AllocError> {
+/// What the last step of a new machine gives.
+fn last_output(alloc: Global, ucd: u8, steps: &[Step]) -> Result<Output, AllocError> {
     let mut machine = Machine::new(alloc);
     let mut output = machine.apply(&channel(ucd))?;
     for step in steps {
         output = machine.apply(&command(*step))?;
     }
+    Ok(output)
+}
+
+/// Whether it is this.
+fn ends_so(alloc: Global, ucd: u8, steps: &[Step], told: Told) -> Result<bool, AllocError> {
+    let output = last_output(alloc, ucd, steps)?;
     Ok(is_told(&output, told))
 }
 

@@ -107,10 +107,16 @@ fn is_right(
     }
 }
 
-/// How many steps are as they say, up to the first that isn't.
-fn right(alloc: Global, steps: &[Step]) -> Result<usize, AllocError> {
+/// A machine with the channel.
+fn on_channel(alloc: Global) -> Result<Machine, AllocError> {
     let mut machine = Machine::new(alloc);
     machine.apply(&CHANNEL)?;
+    Ok(machine)
+}
+
+/// How many steps are as they say, up to the first that isn't.
+fn right(alloc: Global, steps: &[Step]) -> Result<usize, AllocError> {
+    let mut machine = on_channel(alloc)?;
     let mut count: u16 = 0;
     for step in steps {
         if !is_right(&mut machine, alloc, count.saturating_add(1), *step)? {
@@ -179,14 +185,19 @@ fn minislots_that_are_kept(rt: HostRuntime) -> Result<(), Fail> {
     Ok(())
 }
 
-/// The MAP of 100 minislots that keeps so many, where 61 SIDs ask for one each.
-fn crowded(alloc: Global, keep: u16) -> Result<Output, AllocError> {
-    let mut machine = Machine::new(alloc);
-    machine.apply(&CHANNEL)?;
+/// Has 61 SIDs ask for one minislot each.
+fn crowd(machine: &mut Machine) -> Result<(), AllocError> {
     for sid in 1..62 {
         machine.apply(&flow(sid, FlowKind::BestEffort(0)))?;
         machine.apply(&request(sid, 1))?;
     }
+    Ok(())
+}
+
+/// The MAP of 100 minislots that keeps so many then.
+fn crowded(alloc: Global, keep: u16) -> Result<Output, AllocError> {
+    let mut machine = on_channel(alloc)?;
+    crowd(&mut machine)?;
     machine.apply(&cut(100, keep, OWN, OWN))
 }
 
@@ -233,8 +244,7 @@ const REFUSED: [(u8, u16, (u8, u8), (u8, u8), u8); 6] = [
 
 #[test]
 fn cuts_that_are_refused(rt: HostRuntime) -> Result<(), Fail> {
-    let mut machine = Machine::new(rt.alloc());
-    machine.apply(&CHANNEL)?;
+    let mut machine = on_channel(rt.alloc())?;
     for (ch, keep, ranging, data, number) in REFUSED {
         let command = Command::Cut {
             ch,
@@ -289,8 +299,7 @@ fn has_body(output: &Output, body: &[u8]) -> bool {
 
 #[test]
 fn backoffs_of_cuts(rt: HostRuntime) -> Result<(), Fail> {
-    let mut machine = Machine::new(rt.alloc());
-    machine.apply(&CHANNEL)?;
+    let mut machine = on_channel(rt.alloc())?;
     for (ranging, data, body) in TOLD {
         let output = machine.apply(&cut(1, 0, ranging, data))?;
         assert!(rt; has_body(&output, &body), "{ranging:?} {data:?}");

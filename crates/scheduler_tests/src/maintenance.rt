@@ -127,18 +127,28 @@ fn is_told(alloc: Global, output: &Output, told: Told) -> Result<bool, AllocErro
     }
 }
 
-/// How many steps on a channel of this PHY come out so, up to the first that doesn't.
-fn right(alloc: Global, phy: Phy, steps: &[(Step, Told)]) -> Result<usize, AllocError> {
-    let mut machine = Machine::new(alloc);
-    machine.apply(&channel(phy))?;
+/// How many steps come out so, up to the first that doesn't.
+fn right_on(
+    alloc: Global,
+    machine: &mut Machine,
+    steps: &[(Step, Told)],
+) -> Result<usize, AllocError> {
     let mut count: usize = 0;
     for (step, told) in steps {
-        if !is_told(alloc, &machine.apply(&command(*step))?, *told)? {
+        let output = machine.apply(&command(*step))?;
+        if !is_told(alloc, &output, *told)? {
             return Ok(count);
         }
         count = count.saturating_add(1);
     }
     Ok(count)
+}
+
+/// The same on a channel of this PHY.
+fn right(alloc: Global, phy: Phy, steps: &[(Step, Told)]) -> Result<usize, AllocError> {
+    let mut machine = Machine::new(alloc);
+    machine.apply(&channel(phy))?;
+    right_on(alloc, &mut machine, steps)
 }
 
 /// An opening of 30 minislots from 1010 on, in a MAP of 100.

@@ -46,14 +46,19 @@ fn fault_of(alloc: Global, bytes: &[u8]) -> Option<StateFault> {
     }
 }
 
+/// The head of the state, and the bytes of the state that is read.
+fn read_back(alloc: Global) -> Result<(StateHead, Vec<u8>), Fail> {
+    let (head, machine) = read_state(alloc, STATE.as_slice())?;
+    let bytes = state_bytes(alloc, &head, &machine)?;
+    Ok((head, bytes))
+}
+
 #[test]
 fn states_to_bytes_and_back(rt: HostRuntime) -> Result<(), Fail> {
-    let alloc = rt.alloc();
-    let bytes = bytes_of(alloc)?;
+    let bytes = bytes_of(rt.alloc())?;
     assert!(rt; bytes.as_slice() == STATE.as_slice());
-    let (head, machine) = read_state(alloc, STATE.as_slice())?;
+    let (head, again) = read_back(rt.alloc())?;
     assert!(rt; head == HEAD);
-    let again = state_bytes(alloc, &head, &machine)?;
     assert!(rt; again.as_slice() == STATE.as_slice());
     Ok(())
 }
