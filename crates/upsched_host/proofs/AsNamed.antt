@@ -8,7 +8,6 @@ use Rattle.std.proofs.lemmas.Fmt.{decimal_injective}
 use Rattle.acceptor.specs.Content.{Content, no_content}
 use Rattle.ballots.specs.Members.{member_count}
 use Rattle.ballots.specs.declared.members.Members.{Members}
-use Rattle.ballots.specs.declared.members.Members.TheVariants.{Three, Five}
 use Rattle.hosts.specs.Hosts.{AreMembers, StandsAs, member_of, places_of}
 use Rattle.hosts.specs.Keeping.{HaveKept}
 use Rattle.hosts.specs.New.{ArePlaces, IsNoHost}
@@ -21,22 +20,11 @@ use Rattle.node.specs.declared.node.Node.{Ghosts as Nodes}
 use Rattle.host_service.specs.Replying.{host_of}
 use Rattle.host_service.specs.Serving.{NeverLie}
 use Rattle.host_service.specs.declared.service.HostServer.{HostServer}
-use Rattle.upsched_ends.specs.Members.{digit}
+use Rattle.upsched_node.proofs.Callers.{one_member}
 use Rattle.upsched_host.specs.Named.{BeginEmpty, IsNewServer, NameHost, NameMember, NameNone, SayPlaces, Who}
 use Rattle.upsched_host.specs.declared.named.NoHost.TheVariants.{Places}
 use Rattle.upsched_host.specs.declared.named.HostWords.{HostWords}
 use Rattle.upsched_host.specs.declared.named.TheConstants.{PLACES_NOT_GIVEN}
-
-one_digit : (a b : ℕ) → digit a ≡ digit b → a ≡ b
-one_digit a b is =
-    let same : 48 + a ≡ 48 + b = cc (is) in
-    omega (arith, same)
-
-one_count : (c d : Members) → member_count c ≡ member_count d → c ≡ d
-one_count Three Three is = refl
-one_count Three Five is = absurd (omega (arith, is))
-one_count Five Three is = absurd (omega (arith, is))
-one_count Five Five is = refl
 
 one_number : {W : Type 0} (text : W → List ℕ) (word : Option W) (otherwise a b : ℕ) → MatchOption word (a ≡ otherwise) (λ w. text w ≡ decimal a) → MatchOption word (b ≡ otherwise) (λ w. text w ≡ decimal b)
     → a < 2 ^ 64 → b < 2 ^ 64 → a ≡ b
@@ -49,10 +37,9 @@ fits places are = omega (arith, are.few)
 -- words name one host
 pub as_named : (words : HostWords) (who other : Who) → NameHost words who → NameHost words other → other ≡ who
 as_named words who other this that =
-    let counts : other.1 ≡ who.1 = one_count other.1 who.1 (one_digit (member_count other.1) (member_count who.1) (sym that.member.how_many ∙ this.member.how_many)) in
-    let ids : other.0 ≡ who.0 = one_digit other.0 who.0 (sym that.member.which ∙ this.member.which) in
+    let same = one_member words.number.now words.members.now who.0 other.0 who.1 other.1 this.member that.member in
     let places : other.2 ≡ who.2 = one_number (λ w. w.now) words.places PLACES_NOT_GIVEN other.2 who.2 that.say this.say (fits other.2 that.possible) (fits who.2 this.possible) in
-    λ i. (ids i, counts i, places i)
+    λ i. (same.0 i, same.1 i, places i)
 
 -- nodes over new records in memory are of a new host
 pub new_server : {O N : Type 0} {g : Ghosts O N} {h : Nodes N} (server : HostServer O N g h) (host : Host O N g h) (who : Who) → host_of server ≡ host → member_of host ≡ (who.0, member_count who.1) → places_of host ≡ who.2 → AreMembers host

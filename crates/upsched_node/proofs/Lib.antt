@@ -1,3 +1,5 @@
 mod Runs
 mod Ends
 mod New
+mod Members
+pub mod Callers

@@ -1,6 +1,6 @@
 use Rattle.std.proofs.Common.{◌∙◌, ap, sym}
 use Rattle.upsched_store.specs.Stops.{status_of}
-use Rattle.upsched_store.proofs.Named.{one_member}
+use Rattle.upsched_node.proofs.Callers.{one_member}
 use Rattle.upsched_store.proofs.stored_node_run.stored_node.Goals as goal
 
 pub returns-in-Ok-clause-named : goal.returns-in-Ok-clause-named

@@ -1,4 +1,4 @@
--- Words name one member.
+-- Two words name one member.
 use Rattle.std.proofs.Common.{◌≡◌, ◌∙◌, ℕ, ◌+◌, List, refl, sym, arith}
 use Rattle.ballots.specs.Members.{member_count}
 use Rattle.ballots.specs.declared.members.Members.{Members}
